@@ -1,0 +1,42 @@
+use Rattle.alignment.proofs.Filling.{Filling, list-starts, filling-turn, list-ends}
+use Rattle.road.specs.Exact.{blankElement}
+use Rattle.road.specs.File.{element}
+use native.Mathlib.Omega.{arith}
+use Prim.Native.Nat.{_-_}
+use borrow.Author.Needs.{needs}
+use Rattle.alignment.proofs.read_elements.Statement.{statement}
+use Rattle.alignment.proofs.read_elements.Tie as tie
+
+abbrev Inv-loop : tie.InvT-loop
+Inv-loop file count items₀ end₀ i₀ items end i = Filling (λ _. element) 200 blankElement file count end₀ items i end
+
+abbrev μ-loop : tie.MeasureT-loop
+μ-loop file count items₀ end₀ i₀ items end i = count - i
+
+loop-holds : tie.Need-loop-holds Inv-loop μ-loop
+loop-holds c = list-starts 1 200 (omega arith) (c .before .read-field .ensures) (c .items-after .ensures)
+
+loop-again : tie.Need-loop-again Inv-loop μ-loop
+loop-again c =
+    let l = c .before .before .before .loop in
+    filling-turn _ _ _ _ _ _ (l .items) (l .i) (l .end) (l .inv) (c .before .before .loop-test .taken) (c .before .read-element .ensures)
+
+returns : tie.Need-returns Inv-loop μ-loop
+returns c = list-ends 1 200 (omega arith) (c .before .before .before .read-field .ensures) (c .before .before .items-after .ensures) (c .before .loop .inv) (c .loop-test .left)
+
+pub read-elements-spec : {M : Type 1} → statement M
+read-elements-spec =
+    tie.close
+    (tie.spec
+    Inv-loop
+    μ-loop
+    (λ c _. search needs)
+    (λ c _. search needs)
+    loop-holds
+    (λ c _. search needs)
+    (λ c. search needs)
+    (λ c. search needs)
+    (λ c. search needs)
+    (λ c. search needs)
+    loop-again
+    returns)

@@ -1,0 +1,4 @@
+pub mod Lists
+pub mod Answer
+pub mod Back
+pub mod Sample

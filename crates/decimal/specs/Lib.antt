@@ -1,0 +1,7 @@
+pub mod Decimal
+pub mod Written
+pub mod ReadBack
+pub mod Digits
+pub mod Length
+pub mod Line
+pub mod Examples

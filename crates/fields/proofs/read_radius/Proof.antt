@@ -1,0 +1,13 @@
+use Rattle.fields.specs.Onward.{gives}
+use borrow.Author.Needs.{needs}
+use Rattle.fields.proofs.read_radius.Statement.{statement}
+use Rattle.fields.proofs.read_radius.Tie as tie
+
+returns : tie.Need-returns
+returns c = rw (c .before .if1 .taken) (c .read-sized .ensures)
+
+returns-2 : tie.Need-returns-2
+returns-2 c = rw (c .if1 .left) gives
+
+pub read-radius-spec : {M : Type 1} → statement M
+read-radius-spec = tie.close (tie.spec (λ c _. search needs) returns returns-2)

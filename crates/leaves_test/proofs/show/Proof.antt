@@ -1,0 +1,54 @@
+use mathlib.Core.Path.{_≡_, sym, ap, _∙_}
+use mathlib.Core.List.{List, [], _∷_, _++_}
+use Prim.Native.Nat.{ℕ, _+_, _≤_}
+use native.Mathlib.Omega.{arith}
+use borrow.Author.Needs.{needs}
+use lib.IntN.{ℤ}
+use lib.ListN.{length, length-append}
+use lib.Seq.{length-take-le}
+use mir.Facts.{toZ-ofZ}
+use Rattle.integers.specs.Width.{abs64}
+use Rattle.decimal.specs.Decimal.{decimal}
+use Rattle.decimal.specs.Length.{decimal-length}
+use Rattle.decimal.specs.Written.{Wrote, wrote-length}
+use Rattle.leaves_test.proofs.show.Statement.{statement}
+use Rattle.leaves_test.proofs.show.Tie as tie
+
+slice-aggregate-put-field : tie.Need-slice-aggregate-put-field
+slice-aggregate-put-field c = search needs
+
+put-field-requires : tie.Need-put-field-requires
+put-field-requires c κs =
+    let f = c .before .fits .v in
+    simp toZ-ofZ (omega (arith, decimal-length 18 (c .before .args .v) (omega (arith, abs64 f))))
+
+-- the number and the byte after it stand within the line
+fits : (c : tie.After-put-field) → c .put-field .result ≤ length (c .put-field .last .0)
+fits c =
+    let f = c .before .before .fits .v in
+    let v = c .before .before .args .v in
+    let w = simp toZ-ofZ at (c .put-field .ensures .end) in
+    omega (arith, w, length-append (decimal v) (10 ∷ []), decimal-length 18 v (omega (arith, abs64 f)), c .put-field .kept .0)
+
+array-share-prefix-line : tie.Need-array-share-prefix-line
+array-share-prefix-line c = fits (c .before)
+
+slice-aggregate-write-all : tie.Need-slice-aggregate-write-all
+slice-aggregate-write-all c = sym (length-take-le _ _ (fits (c .before .before)))
+
+write-all-requires : tie.Need-write-all-requires
+write-all-requires c κs = search needs
+
+returns : tie.Need-returns
+returns c = search needs
+
+pub show-spec : {M : Type 1} → statement M
+show-spec =
+    tie.close
+    (tie.spec
+    slice-aggregate-put-field
+    put-field-requires
+    array-share-prefix-line
+    slice-aggregate-write-all
+    write-all-requires
+    returns)

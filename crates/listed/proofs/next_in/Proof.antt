@@ -1,0 +1,64 @@
+use mathlib.Core.Path.{_≡_, sym, ap, ap₂, _∙_}
+use Prim.Native.Nat.{ℕ}
+use mathlib.Core.Option.{Option}
+use borrow.Author.Needs.{needs}
+use Rattle.road.specs.Exact.{total}
+use Rattle.road.specs.Held.{roadIn}
+use Rattle.road.specs.Listed.{counted, multiples, elementEnds}
+use Rattle.listed.specs.Least.{asOption, leastWith, allCurveStations, next-parts}
+use Rattle.listed.proofs.next_in.Statement.{statement}
+use Rattle.listed.proofs.next_in.Tie as tie
+
+with-points-requires : tie.Need-with-points-requires
+with-points-requires c κs = search needs
+
+with-curves-requires : tie.Need-with-curves-requires
+with-curves-requires c κs = search needs
+
+with-element-ends-requires : tie.Need-with-element-ends-requires
+with-element-ends-requires c κs = search needs
+
+cast-with-multiples : tie.Need-cast-with-multiples
+cast-with-multiples c = search needs
+
+with-multiples-requires : tie.Need-with-multiples-requires
+with-multiples-requires c κs = search needs
+
+with-station-requires : tie.Need-with-station-requires
+with-station-requires c κs = search needs
+
+with-station-requires-2 : tie.Need-with-station-requires-2
+with-station-requires-2 c κs = search needs
+
+returns : tie.Need-returns
+returns c =
+    let m = c .before .before in
+    let e = m .before .before in
+    let u = e .before in
+    let p = u .before in
+    let s = p .before .args .s in
+    let a = p .before .args .a in
+    let r = roadIn a in
+    let t : e .with-element-ends .result .total ≡ total r = e .with-element-ends .ensures .1 .0 in
+    c .with-station2 .ensures
+    ∙ ap (counted s 0)
+    (c .before .with-station .ensures
+    ∙ ap₂ (λ (T : ℕ) (o : Option ℕ). counted s T o) t
+    (m .with-multiples .ensures
+    ∙ ap₂ (λ (T : ℕ) (o : Option ℕ). leastWith s (multiples (a .step) T) o) t
+    (e .with-element-ends .ensures .0
+    ∙ ap (leastWith s (elementEnds r)) (u .with-curves .ensures ∙ ap (leastWith s (allCurveStations r)) (p .with-points .ensures)))))
+    ∙ sym (next-parts r s)
+
+pub next-in-spec : {M : Type 1} → statement M
+next-in-spec =
+    tie.close
+    (tie.spec
+    with-points-requires
+    with-curves-requires
+    with-element-ends-requires
+    cast-with-multiples
+    with-multiples-requires
+    with-station-requires
+    with-station-requires-2
+    returns)

@@ -1,0 +1,42 @@
+-- Document 01, "One list, whole": the numbers of the file, and the list that is printed.
+use Prim.Native.Nat.{ℕ}
+use mathlib.Core.Path.{_≡_, refl}
+use mathlib.Core.List.{List, [], _∷_, _++_}
+use lib.IntN.{pos, negsuc}
+use lib.ListN.{replicate}
+use Rattle.number.specs.Number.{shortest, written}
+use Rattle.road.specs.Base.{joined}
+use Rattle.road.specs.Text.{printedLine}
+use Rattle.road.specs.Listing.{listing}
+use Rattle.road.specs.Compute.{computed}
+
+-- "The numbers of this file, signed values shown plainly"
+abbrev pub numbers : List ℕ
+numbers =
+    4 ∷ 3 ∷ 50_000 ∷ 5000
+    ∷ 1 ∷ 0 ∷ 200_000
+    ∷ written (pos 500_000) ∷ 2
+    ∷ 100_000 ∷ written (pos 20_000) ∷ 20_000
+    ∷ 100_000 ∷ written (negsuc 19_999)
+    ∷ 2
+    ∷ 0 ∷ written (negsuc 24_999) ∷ written (negsuc 24_999)
+    ∷ 200_000 ∷ written (negsuc 24_999) ∷ written (negsuc 24_999)
+    ∷ []
+
+abbrev pub file : List ℕ
+file = joined shortest numbers
+
+abbrev pub lines : List ℕ
+lines =
+    printedLine "0 500000 20000 -25000 -25000 499931 499931 0"
+    ++ printedLine "50000 501000 20000 -25000 -25000 500931 500931 0"
+    ++ printedLine "80000 501600 20000 -25000 -25000 501531 501531 0"
+    ++ printedLine "100000 501800 0 -25000 -25000 501731 501731 0"
+    ++ printedLine "120000 501600 -20000 -25000 -25000 501531 501531 0"
+    ++ printedLine "150000 501000 -20000 -25000 -25000 500931 500931 0"
+    ++ printedLine "200000 500000 -20000 -25000 -25000 499931 499931 0"
+
+-- the listing's run on that file, in a buffer of 96 bytes, prints exactly that list
+pub sample-list : listing file (replicate 96 0) ≡ lines
+unfolding computed
+sample-list = refl

@@ -1,0 +1,50 @@
+// The declared types that the definitions of specs/ speak of.
+
+// An element of the plan: kind 0 straight, 1 arc, 2 clothoid; the radius of what is no arc is 0.
+pub struct Element {
+    pub kind: u32,
+    pub length: u32,
+    pub radius: i32,
+}
+
+// A tangent of the profile, with the half length of the vertical curve that follows it; 0 after the last.
+pub struct Tangent {
+    pub length: u32,
+    pub grade: i32,
+    pub half: u32,
+}
+
+// A crossfall point.
+pub struct Crossfall {
+    pub station: u32,
+    pub left: i32,
+    pub right: i32,
+}
+
+// An alignment is held as three lists with their counts.
+pub struct Alignment {
+    pub class: u32,
+    pub terrain: u32,
+    pub step: u32,
+    pub ramp: u32,
+    pub elements: [Element; 200],
+    pub element_count: usize,
+    pub start: i32,
+    pub tangents: [Tangent; 100],
+    pub tangent_count: usize,
+    pub crossfalls: [Crossfall; 200],
+    pub crossfall_count: usize,
+}
+
+// The answer of a row call: a refusal and its place, or the line's length.
+pub enum RowAnswer {
+    Refused(u32, usize),
+    Length(usize),
+}
+
+// The answer of a next call: a refusal and its place, a station, or that there is none.
+pub enum NextAnswer {
+    Refused(u32, usize),
+    Station(u64),
+    Nothing,
+}

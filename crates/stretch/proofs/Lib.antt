@@ -1,0 +1,5 @@
+pub mod Laws
+pub mod Curve
+pub mod Fields
+pub mod Parts
+pub mod Written

@@ -1,0 +1,23 @@
+use mir.Syntax.{w64}
+use mir.Val.{SFits}
+use mir.Facts.{toZ-ofZ}
+use Rattle.stretch.proofs.Laws.{wide-fits, long-fits, long-low, drop-answer}
+use Rattle.stretch.proofs.drop_of.Statement.{statement}
+use Rattle.stretch.proofs.drop_of.Tie as tie
+
+mul-round-div : tie.Need-mul-round-div
+mul-round-div c = simp (toZ-ofZ, c .fits .over, c .fits .width) (wide-fits (c .pre))
+
+mul-round-div-2 : tie.Need-mul-round-div-2
+mul-round-div-2 c = simp (toZ-ofZ, c .fits .span) (long-fits (c .pre))
+
+round-div-requires : tie.Need-round-div-requires
+round-div-requires c κs = simp (toZ-ofZ, c .fits .span, long-fits (c .pre)) (long-low (c .pre))
+
+returns : tie.Need-returns
+returns c = let s = c .before in
+    let k : SFits w64 (c .round-div .result) = record { sfits = c .round-div .ok } in
+    simp toZ-ofZ (drop-answer (s .pre) (simp (toZ-ofZ, s .fits .over, s .fits .width, s .fits .span, wide-fits (s .pre), long-fits (s .pre)) at (c .round-div .ensures)))
+
+pub drop-of-spec : {M : Type 1} → statement M
+drop-of-spec = tie.close (tie.spec mul-round-div mul-round-div-2 round-div-requires returns)

@@ -1,0 +1,5 @@
+pub mod Stretch
+pub mod Sizes
+pub mod Cases
+pub mod Short
+pub mod Line

@@ -1,0 +1,113 @@
+-- What the numbers of a stretch say of a station: fractions of whole numbers, before they are rounded.
+use Prim.Native.Nat.{ℕ, _+_, _*_, _≤_, _<_}
+use mathlib.Core.Path.{_≡_}
+use mathlib.Core.Bool.{Bool, true, false}
+use mathlib.Core.List.{List, [], _∷_}
+use lib.Dec.{eqb}
+use lib.IntN.{ℤ, pos, _+ℤ_, _-ℤ_, _*ℤ_, natAbs}
+use lib.Signed.{_≤ℤ_, _<ℤ_}
+use Rattle.integers.specs.Fraction.{Frac, _÷_, whole, _≈ᶠ_}
+use Rattle.integers.specs.Rounding.{rounded}
+use Rattle.decimal.specs.Decimal.{spaced}
+use Rattle.road.specs.Base.{if_then_else_}
+use Rattle.road.specs.File.{Road}
+use Rattle.road.specs.Exact.{Side, left, right, height, grade, crossfall, edgeDrop, curvature}
+use Rattle.stretch.specs.declared.Stretch.{Stretch}
+use Rattle.stretch.specs.declared.Numbers.{Numbers}
+
+-- the distance past a place of the stretch
+abbrev pub past : ℤ → ℕ → ℤ
+past from x = pos x -ℤ from
+
+-- the tangent's height, prolonged, in millionths
+abbrev pub onTangent : Stretch → ℕ → ℤ
+onTangent s x = s .height +ℤ s .grade *ℤ past (s .from) x
+
+-- half lengths and spans are above zero as whole numbers; as denominators they are naturals
+unfoldable pub heightIn : Stretch → ℕ → Frac
+heightIn s x =
+    if eqb (natAbs (s .half)) 0 then onTangent s x ÷ 1000000
+    else (onTangent s x *ℤ pos (4 * natAbs (s .half)) +ℤ s .change *ℤ (past (s .from) x *ℤ past (s .from) x)) ÷ (4 * natAbs (s .half) * 1000000)
+
+unfoldable pub gradeIn : Stretch → ℕ → Frac
+gradeIn s x =
+    if eqb (natAbs (s .half)) 0 then whole (s .grade)
+    else (s .grade *ℤ pos (2 * natAbs (s .half)) +ℤ s .change *ℤ past (s .from) x) ÷ (2 * natAbs (s .half))
+
+abbrev pub sideStart : Side → Stretch → ℤ
+sideStart left s = s .left
+sideStart right s = s .right
+
+abbrev pub sideChange : Side → Stretch → ℤ
+sideChange left s = s .«left_change»
+sideChange right s = s .«right_change»
+
+-- the crossfall's numerator, over the span
+abbrev pub crossfallOver : Side → Stretch → ℕ → ℤ
+crossfallOver d s x = sideStart d s *ℤ s .span +ℤ sideChange d s *ℤ past (s .point) x
+
+unfoldable pub crossfallIn : Side → Stretch → ℕ → Frac
+crossfallIn d s x = crossfallOver d s x ÷ natAbs (s .span)
+
+unfoldable pub dropIn : Side → Stretch → ℕ → Frac
+dropIn d s x = (crossfallOver d s x *ℤ s .lane) ÷ (natAbs (s .span) * 1000000)
+
+unfoldable pub curvatureIn : Stretch → ℕ → Frac
+curvatureIn s x = (s .bend +ℤ s .«bend_change» *ℤ past (s .element) x) ÷ natAbs (s .«bend_span»)
+
+-- the printed numbers of a station of the stretch
+unfoldable pub numbersIn : Stretch → ℕ → Numbers
+numbersIn s x = record {
+  station = pos x;
+  height = rounded (heightIn s x);
+  grade = rounded (gradeIn s x);
+  left = rounded (crossfallIn left s x);
+  right = rounded (crossfallIn right s x);
+  «left_edge» = rounded (heightIn s x) +ℤ rounded (dropIn left s x);
+  «right_edge» = rounded (heightIn s x) +ℤ rounded (dropIn right s x);
+  curvature = rounded (curvatureIn s x);
+}
+
+abbrev pub listOf : Numbers → List ℤ
+listOf n = n .station ∷ n .height ∷ n .grade ∷ n .left ∷ n .right ∷ n .«left_edge» ∷ n .«right_edge» ∷ n .curvature ∷ []
+
+-- the line of a station of the stretch
+unfoldable pub lineIn : Stretch → ℕ → List ℕ
+lineIn s x = spaced (listOf (numbersIn s x))
+
+-- what the code asks of a stretch and a station, so that everything fits 64 bits
+pub record Sound (s : Stretch) (x : ℕ) : Type 0 where
+  pub station : x ≤ 100000000
+  pub height : natAbs (onTangent s x) ≤ 27240000000000
+  pub grade : natAbs (s .grade) ≤ 120000
+  pub change : natAbs (s .change) ≤ 240000
+  pub half-low : pos 0 ≤ℤ s .half
+  pub half-high : natAbs (s .half) ≤ 1000000
+  pub from-size : natAbs (s .from) ≤ 100000000
+  pub height-size : natAbs (s .height) ≤ 27240000000000
+  -- in a curve: between its ends
+  pub in-curve : 0 < natAbs (s .half) → (pos 0 ≤ℤ past (s .from) x) × (natAbs (past (s .from) x) ≤ 2 * natAbs (s .half))
+  pub span-low : pos 0 <ℤ s .span
+  pub span-high : natAbs (s .span) ≤ 100000000
+  pub point-low : pos 0 ≤ℤ past (s .point) x
+  pub point-high : natAbs (past (s .point) x) ≤ natAbs (s .span)
+  pub sides : (d : Side) → (natAbs (sideStart d s) ≤ 80000) × (natAbs (sideChange d s) ≤ 160000)
+  pub lane-low : pos 0 ≤ℤ s .lane
+  pub lane : natAbs (s .lane) ≤ 3500
+  pub element-low : pos 0 ≤ℤ past (s .element) x
+  pub element-high : natAbs (past (s .element) x) ≤ 10000000
+  pub bend : natAbs (s .bend) ≤ 10000000000000000
+  pub bend-change : natAbs (s .«bend_change») ≤ 1000000000
+  pub bend-low : pos 0 <ℤ s .«bend_span»
+  pub bend-high : natAbs (s .«bend_span») ≤ 100000000000000
+  -- a curvature is a number of a line
+  pub curvature : natAbs (s .bend +ℤ s .«bend_change» *ℤ past (s .element) x) ≤ 3000000000 * natAbs (s .«bend_span»)
+
+-- the stretch says what the exact road says at a station
+pub record Shows (r : Road) (s : Stretch) (x : ℕ) : Type 0 where
+  pub sound : Sound s x
+  pub height : height r x ≈ᶠ heightIn s x
+  pub grade : grade r x ≈ᶠ gradeIn s x
+  pub crossfall : (d : Side) → crossfall d r x ≈ᶠ crossfallIn d s x
+  pub drop : (d : Side) → edgeDrop d r x ≈ᶠ dropIn d s x
+  pub curvature : curvature r x ≈ᶠ curvatureIn s x

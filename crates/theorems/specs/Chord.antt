@@ -1,0 +1,75 @@
+-- The line between two printed heights: how far it is off, over a stretch on which the exact height is one quadratic over one denominator.
+use mathlib.Core.Path.{_≡_, ap, ap₂, _∙_}
+use mathlib.Core.List.{[], _∷_}
+use Prim.Native.Nat.{ℕ, _+_, _*_, _-_, _≤_, _<_}
+use native.Mathlib.Omega.{arith}
+use native.Mathlib.Nat.{mul-le-mul-left}
+use lib.IntN.{ℤ, pos, _+ℤ_, _-ℤ_, _*ℤ_, natAbs}
+use lib.Dec.{leb→le, le→leb}
+use Rattle.integers.specs.Bridge.{abs-mul}
+use Rattle.integers.specs.Ring.{_:+_, _:-_, _:*_, #, ring, v0, v1, v2, v3, v4, v5, v6, v7, v8, v9}
+use Rattle.integers.specs.Fraction.{_÷_, whole, _-ᶠ_, size, _≤ᶠ_}
+use Rattle.road.specs.Exact.{from_to_}
+use Rattle.theorems.specs.Surface.{straight}
+use Rattle.theorems.specs.Quadratic.{chord}
+
+-- what the chord from a to a + s + t lies above N at a + s
+unfoldable pub Bends : (ℕ → ℤ) → (a s t : ℕ) → ℤ → Type 0
+Bends N a s t C = (pos t *ℤ N a +ℤ pos s *ℤ N (a + s + t)) -ℤ pos (s + t) *ℤ N (a + s) ≡ C *ℤ pos (s * t * (s + t))
+
+-- of a sum of fractions, whose denominators stay the same
+pub bends-sum : (H R : ℕ → ℤ) (d k : ℕ) (a s t : ℕ) (C : ℤ) → Bends H a s t C → Bends R a s t (pos 0) → Bends (λ x. H x *ℤ pos k +ℤ R x *ℤ pos d) a s t (C *ℤ pos k)
+unfolding Bends
+bends-sum H R d k a s t C h g =
+    let P = pos (s * t * (s + t)) in
+    ring (H a ∷ H (a + s + t) ∷ H (a + s) ∷ R a ∷ R (a + s + t) ∷ R (a + s) ∷ pos s ∷ pos t ∷ pos d ∷ pos k ∷ [])
+    ((v7 :* (v0 :* v9 :+ v3 :* v8) :+ v6 :* (v1 :* v9 :+ v4 :* v8)) :- (v6 :+ v7) :* (v2 :* v9 :+ v5 :* v8))
+    (((v7 :* v0 :+ v6 :* v1) :- (v6 :+ v7) :* v2) :* v9 :+ ((v7 :* v3 :+ v6 :* v4) :- (v6 :+ v7) :* v5) :* v8) tt
+    ∙ ap₂ (λ (x y : ℤ). x *ℤ pos k +ℤ y *ℤ pos d) h g
+    ∙ ring (C ∷ P ∷ pos k ∷ pos d ∷ []) (v0 :* v1 :* v2 :+ # 0 :* v1 :* v3) (v0 :* v2 :* v1) tt
+
+-- orders of fractions that are not negative
+out⁻ : {a b c d : ℕ} → (pos a ÷ b) ≤ᶠ (pos c ÷ d) → a * d ≤ c * b
+out⁻ {a} {b} {c} {d} h = leb→le (a * d) (c * b) (h .out .le)
+
+pub out⁺ : {a b c d : ℕ} → 0 < b → 0 < d → a * d ≤ c * b → (pos a ÷ b) ≤ᶠ (pos c ÷ d)
+out⁺ {a} {b} {c} {d} p q h = record { left = p; right = q; out = record { le = le→leb (a * d) (c * b) h } }
+
+-- a printed height p / m and an exact one n / D, over one denominator
+near : (p n : ℤ) (m D : ℕ) → size (p ÷ m -ᶠ n ÷ D) ≤ᶠ whole (pos 1) → natAbs (p *ℤ pos D -ℤ n *ℤ pos m) ≤ m * D
+near p n m D h =
+    let l : natAbs (p *ℤ pos D -ℤ n *ℤ pos m) * 1 ≤ 1 * (m * D) = out⁻ h in
+    omega arith
+
+ahead : (a s : ℕ) → (from a to (a + s)) ≡ pos s
+ahead a s = ring (pos a ∷ pos s ∷ []) (v0 :+ v1 :- v0) v1 tt
+
+-- a bound times m², where its terms have m already
+scale : (m n D X E K L : ℕ) → E ≡ m * m * X → L ≡ K * m → 4 * X ≤ 4 * n * (m * D) + L * n * n * n → 4 * E ≤ m * m * m * (4 * n * D + K * n * n * n)
+scale m n D X E K L e f h = rw (e) (let g : 4 * X ≤ 4 * n * (m * D) + K * m * n * n * n = rw f at h in omega (arith, mul-le-mul-left (m * m) g))
+
+-- the numerator of the line between p / m and q / m, less the exact one
+pub straight-off : (N : ℕ → ℤ) (m D a s t : ℕ) (p q C : ℤ) → Bends N a s t C
+    → size (p ÷ m -ᶠ N a ÷ D) ≤ᶠ whole (pos 1) → size (q ÷ m -ᶠ N (a + s + t) ÷ D) ≤ᶠ whole (pos 1)
+    → 4 * natAbs ((straight (p ÷ m) (q ÷ m) a (a + s + t) (a + s) -ᶠ N (a + s) ÷ D) .num) ≤ m * m * m * (4 * (s + t) * D + natAbs C * (s + t) * (s + t) * (s + t))
+unfolding Bends straight
+straight-off N m D a s t p q C h hp hq =
+    let d : a + s + t - a ≡ s + t = omega arith in
+    let off = (pos t *ℤ p +ℤ pos s *ℤ q) *ℤ pos D -ℤ pos (s + t) *ℤ (N (a + s) *ℤ pos m) in
+    rw (d, ahead a s) (rw same
+    (scale m (s + t) D (natAbs off) (natAbs (pos (m * m) *ℤ off)) (natAbs C) (natAbs (C *ℤ pos m)) (abs-mul (pos (m * m)) off) (abs-mul C (pos m))
+    (chord s t D (m * D) p q (N a *ℤ pos m) (N (a + s) *ℤ pos m) (N (a + s + t) *ℤ pos m) (C *ℤ pos m) scaled (near p (N a) m D hp) (near q (N (a + s + t)) m D hq))))
+  where
+    scaled : (pos t *ℤ (N a *ℤ pos m) +ℤ pos s *ℤ (N (a + s + t) *ℤ pos m)) -ℤ pos (s + t) *ℤ (N (a + s) *ℤ pos m) ≡ (C *ℤ pos m) *ℤ pos (s * t * (s + t))
+    scaled =
+        ring (N a ∷ N (a + s) ∷ N (a + s + t) ∷ pos s ∷ pos t ∷ pos m ∷ [])
+        ((v4 :* (v0 :* v5) :+ v3 :* (v2 :* v5)) :- (v3 :+ v4) :* (v1 :* v5))
+        (((v4 :* v0 :+ v3 :* v2) :- (v3 :+ v4) :* v1) :* v5) tt
+        ∙ ap (λ (x : ℤ). x *ℤ pos m) h
+        ∙ ring (C ∷ pos (s * t * (s + t)) ∷ pos m ∷ []) (v0 :* v1 :* v2) (v0 :* v2 :* v1) tt
+
+    same : (p *ℤ pos (m * m * (s + t)) +ℤ (q *ℤ pos m -ℤ p *ℤ pos m) *ℤ pos s *ℤ pos m) *ℤ pos D -ℤ N (a + s) *ℤ pos (m * (m * m * (s + t)))
+        ≡ pos (m * m) *ℤ ((pos t *ℤ p +ℤ pos s *ℤ q) *ℤ pos D -ℤ pos (s + t) *ℤ (N (a + s) *ℤ pos m))
+    same = ring (p ∷ q ∷ pos s ∷ pos t ∷ pos D ∷ N (a + s) ∷ pos m ∷ [])
+        ((v0 :* (v6 :* v6 :* (v2 :+ v3)) :+ (v1 :* v6 :- v0 :* v6) :* v2 :* v6) :* v4 :- v5 :* (v6 :* (v6 :* v6 :* (v2 :+ v3))))
+        ((v6 :* v6) :* ((v3 :* v0 :+ v2 :* v1) :* v4 :- (v2 :+ v3) :* (v5 :* v6))) tt

@@ -1,0 +1,144 @@
+-- What the rules say of an accepted road, as numbers.
+use mathlib.Core.Path.{_≡_, refl, sym, ap, _∙_}
+use mathlib.Core.List.{[], List, _∷_, _++_}
+use mathlib.Core.Bool.{Bool, true, false, not, _&&_}
+use Prim.Native.Nat.{ℕ, suc, _+_, _-_, _≤_, _<_}
+use native.Mathlib.Omega.{arith}
+use lib.ListN.{length, take}
+use lib.Seq.{take-suc}
+use lib.Dec.{leb, eqb}
+use borrow.Author.Tests.{eqb-true, eq-eqb, ltb-false, leb-false, not-false}
+use lib.IntN.{ℤ, pos, _+ℤ_, _*ℤ_, +ℤ-assoc, +ℤ-idl, +ℤ-idr}
+use Rattle.road.specs.Base.{sumOf}
+use Rattle.road.specs.File.{Road}
+use Rattle.road.specs.Exact.{blankElement, blankTangent, elementOf, tangentOf, pointOf, elementStart, tangentStart, total, vertexCount, vertex, halfLength, rise}
+use Rattle.road.specs.Rules.{rules, otherTotal, halfBefore, shortTangent, notBeyond, misplaced}
+use Rattle.road.specs.Laws.{Kept}
+use Rattle.road.specs.Positive.{Accepted, points-placed}
+use Rattle.road.specs.declared.Element.{Element}
+use Rattle.road.specs.declared.Tangent.{Tangent}
+use Rattle.theorems.specs.Tests.{or-left, or-right, true-false}
+use Rattle.theorems.specs.Last.{Rising, rises-to}
+use Rattle.theorems.specs.Sums.{sum-next, sums-rise}
+
+-- ---- where tangents and elements begin
+rise-append : (l : List Tangent) (t : Tangent) → rise (l ++ (t ∷ [])) ≡ rise l +ℤ t .grade *ℤ pos (t .length)
+unfolding rise
+rise-append [] t = +ℤ-idr (t .grade *ℤ pos (t .length)) ∙ sym (+ℤ-idl (t .grade *ℤ pos (t .length)))
+rise-append (x ∷ l) t = ap (λ (z : ℤ). x .grade *ℤ pos (x .length) +ℤ z) (rise-append l t) ∙ sym (+ℤ-assoc (x .grade *ℤ pos (x .length)) (rise l) (t .grade *ℤ pos (t .length)))
+
+pub start-next : (r : Road) (i : ℕ) → i < length (r .tangents) → tangentStart r (suc i) ≡ tangentStart r i + tangentOf r i .length
+unfolding tangentStart
+start-next r i h = sum-next (λ (t : Tangent). t .length) blankTangent (r .tangents) i h
+
+pub starts-rise : (r : Road) → Rising (tangentStart r) (length (r .tangents))
+unfolding tangentStart
+starts-rise r = sums-rise (λ (t : Tangent). t .length) blankTangent (r .tangents)
+
+pub element-next : (r : Road) (i : ℕ) → i < length (r .plan) → elementStart r (suc i) ≡ elementStart r i + elementOf r i .length
+unfolding elementStart
+element-next r i h = sum-next (λ (e : Element). e .length) blankElement (r .plan) i h
+
+pub elements-rise : (r : Road) → Rising (elementStart r) (length (r .plan))
+unfolding elementStart
+elements-rise r = sums-rise (λ (e : Element). e .length) blankElement (r .plan)
+
+pub rise-next : (r : Road) (i : ℕ) → i < length (r .tangents) → rise (take (suc i) (r .tangents)) ≡ rise (take i (r .tangents)) +ℤ tangentOf r i .grade *ℤ pos (tangentOf r i .length)
+rise-next r i h = ap rise (take-suc (r .tangents) i blankTangent h) ∙ rise-append (take i (r .tangents)) (tangentOf r i)
+
+pub start-first : (r : Road) → tangentStart r 0 ≡ 0
+unfolding tangentStart sumOf
+start-first r = refl
+
+-- ---- the facts
+pub record Facts (r : Road) : Type 0 where
+  pub tangents : 0 < length (r .tangents)
+  pub points : 2 ≤ length (r .crossfalls)
+  pub whole : tangentStart r (length (r .tangents)) ≡ total r
+  pub room : (i : ℕ) → i < length (r .tangents) → halfBefore r i + halfLength r i ≤ tangentOf r i .length
+  pub first : pointOf r 0 .station ≡ 0
+  pub ascend : (i : ℕ) → suc i < length (r .crossfalls) → pointOf r i .station < pointOf r (suc i) .station
+  pub last : (i : ℕ) → suc i ≡ length (r .crossfalls) → pointOf r i .station ≡ total r
+
+-- rules 6 and 14
+whole-of : {r : Road} → Accepted r → tangentStart r (length (r .tangents)) ≡ total r
+unfolding Kept rules otherTotal
+whole-of {r} a = eqb-true (tangentStart r (length (r .tangents))) (total r) (not-false (eqb (tangentStart r (length (r .tangents))) (total r)) (a .kept .1 .0 0 (omega arith)))
+
+room-of : {r : Road} → Accepted r → (i : ℕ) → i < length (r .tangents) → halfBefore r i + halfLength r i ≤ tangentOf r i .length
+unfolding Kept rules shortTangent
+room-of {r} a i h = ltb-false (tangentOf r i .length) (halfBefore r i + halfLength r i) (a .kept .1 .1 .1 .1 .1 .1 .1 .1 .1 .0 i h)
+
+-- rule 16 alone: point 0 at 0, each beyond its forerunner, the last at T
+pub record Placed (r : Road) : Type 0 where
+  pub points : 2 ≤ length (r .crossfalls)
+  pub first : pointOf r 0 .station ≡ 0
+  pub ascend : (i : ℕ) → suc i < length (r .crossfalls) → pointOf r i .station < pointOf r (suc i) .station
+  pub last : (i : ℕ) → suc i ≡ length (r .crossfalls) → pointOf r i .station ≡ total r
+
+at-end : (b c : Bool) → b ≡ true → (b && not c) ≡ false → c ≡ true
+at-end true c e f = not-false c f
+at-end false c e f = absurd (true-false false e refl)
+
+pub placed-by : {r : Road} → 2 ≤ length (r .crossfalls) → ((i : ℕ) → i < length (r .crossfalls) → misplaced r i ≡ false) → Placed r
+unfolding misplaced
+placed-by {r} two kept = record {
+  points = two;
+  first = eqb-true (pointOf r 0 .station) 0 (not-false (eqb (pointOf r 0 .station) 0) (or-left (not (eqb (pointOf r 0 .station) 0)) _ (kept 0 (omega arith))));
+  ascend = λ i h. leb-false (pointOf r (suc i) .station) (pointOf r i .station) (or-left (leb (pointOf r (suc i) .station) (pointOf r i .station)) _ (kept (suc i) h));
+  last = λ i e. eqb-true (pointOf r i .station) (total r) (at-end (eqb (suc i) (length (r .crossfalls))) (eqb (pointOf r i .station) (total r)) (eq-eqb (suc i) (length (r .crossfalls)) e)
+      (or-right (notBeyond r i) (eqb (suc i) (length (r .crossfalls)) && not (eqb (pointOf r i .station) (total r))) (kept i (omega arith))));
+}
+
+pub facts : {r : Road} → Accepted r → Facts r
+facts {r} a =
+    let one = a .ranges .profile .tangents .count .low in
+    let P = placed-by (a .ranges .points .count .low) (points-placed a) in
+    record {
+      tangents = omega arith;
+      points = P .points;
+      whole = whole-of a;
+      room = room-of a;
+      first = P .first;
+      ascend = P .ascend;
+      last = P .last;
+    }
+
+pub placed : {r : Road} → Facts r → Placed r
+placed F = record { points = F .points; first = F .first; ascend = F .ascend; last = F .last }
+
+-- the stations of the points, up to the last
+pub placed-rise : {r : Road} → Placed r → Rising (λ i. pointOf r i .station) (length (r .crossfalls) - 1)
+unfolding Rising
+placed-rise P i h = let l = P .ascend i (omega arith) in omega arith
+
+pub placed-end : {r : Road} → Placed r → pointOf r (length (r .crossfalls) - 1) .station ≡ total r
+placed-end {r} P = let two = P .points in P .last (length (r .crossfalls) - 1) (omega arith)
+
+pub points-rise : {r : Road} → Facts r → Rising (λ i. pointOf r i .station) (length (r .crossfalls) - 1)
+points-rise F = placed-rise (placed F)
+
+pub points-end : {r : Road} → Facts r → pointOf r (length (r .crossfalls) - 1) .station ≡ total r
+points-end F = placed-end (placed F)
+
+pub points-inside : {r : Road} → Facts r → (i : ℕ) → i < length (r .crossfalls) → pointOf r i .station ≤ total r
+points-inside {r} F i h =
+    let n : ℕ = length (r .crossfalls) - 1 in
+    omega (arith, rises-to (λ i. pointOf r i .station) n i n (points-rise F) (omega arith) (omega arith), points-end F)
+
+-- a vertex without a curve has one grade on both sides: rule 15
+abbrev pub Level : Road → Type 0
+Level r = (i : ℕ) → i < vertexCount r → halfLength r i ≡ 0 → tangentOf r (suc i) .grade ≡ tangentOf r i .grade
+
+-- ---- the curves of the profile
+module _ {r : Road} (F : Facts r) where
+  -- a curve begins on the tangent before its vertex, and ends on the one after it
+  pub curve-begins : (i : ℕ) → i < vertexCount r → tangentStart r i + halfBefore r i + halfLength r i ≤ vertex r i
+  curve-begins i h = omega (arith, F .room i (omega arith), start-next r i (omega arith))
+
+  pub curve-ends : (i : ℕ) → i < vertexCount r → vertex r i + halfLength r i ≤ total r
+  curve-ends i h =
+      let a = F .room (suc i) (omega arith) in
+      let b = start-next r (suc i) (omega arith) in
+      let c = rises-to (tangentStart r) (length (r .tangents)) (suc (suc i)) (length (r .tangents)) (starts-rise r) (omega arith) (omega arith) in
+      omega (arith, F .whole)

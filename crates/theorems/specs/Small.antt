@@ -1,0 +1,77 @@
+-- How large a fraction is, and the whole number it is rounded to.
+use mathlib.Core.Path.{_≡_, sym, subst}
+use Prim.Native.Nat.{ℕ, zero, suc, _+_, _*_, _≤_, _<_}
+use native.Mathlib.Omega.{arith}
+use native.Mathlib.Decide.{decLt}
+use native.Mathlib.Nat.{mul-le-mul, div-zero, le-of-mul-le-mul-right}
+use lib.IntN.{ℤ, pos, negsuc, _+ℤ_, _-ℤ_, _*ℤ_, natAbs}
+use Rattle.integers.specs.Bridge.{int, nat, _⊖_, abs!, abs?, abs-add, abs-mul}
+use Rattle.integers.specs.Rounding.{floor, round, rounded, round-near}
+use Rattle.integers.specs.Fraction.{Frac, _+ᶠ_, _-ᶠ_, _×ᶠ_}
+use Rattle.road.specs.Exact.{from_to_}
+
+-- of a size of at most B; a denominator of 0 says nothing
+unfoldable pub Small : Frac → ℕ → Type 0
+Small f B = 0 < f .den → natAbs (f .num) ≤ B * f .den
+
+pub abs-product : (a b : ℤ) {k l : ℕ} → natAbs a ≤ k → natAbs b ≤ l → natAbs (a *ℤ b) ≤ k * l
+abs-product a b {k} {l} h g = omega (arith, abs-mul a b, mul-le-mul h g)
+
+pub abs-sum : (a b : ℤ) {k l : ℕ} → natAbs a ≤ k → natAbs b ≤ l → natAbs (a +ℤ b) ≤ k + l
+abs-sum a b h g = omega (arith, abs-add a b)
+
+pub abs-less : (a b : ℤ) {k l : ℕ} → natAbs a ≤ k → natAbs b ≤ l → natAbs (a -ℤ b) ≤ k + l
+abs-less a b {k} {l} h g = let x = abs? (int a) k h in let y = abs? (int b) l g in abs! (int a ⊖ int b) (k + l) (omega arith) (omega arith)
+
+pub abs-from : (a s k : ℕ) → a ≤ s + k → s ≤ a + k → natAbs (from a to s) ≤ k
+abs-from a s k h g = abs! (nat s ⊖ nat a) k (omega arith) (omega arith)
+
+-- ---- sums, differences and products of fractions
+factors : (a b : ℕ) → 0 < a * b → (0 < a) × (0 < b)
+factors zero b p = absurd (omega arith)
+factors (suc a) zero p = absurd (omega arith)
+factors (suc a) (suc b) p = omega arith
+
+pub small-sum : (f g : Frac) (A B : ℕ) → Small f A → Small g B → Small (f +ᶠ g) (A + B)
+unfolding Small
+small-sum f g A B h k q =
+    let p = factors (f .den) (g .den) q in
+    omega (arith, abs-sum (f .num *ℤ pos (g .den)) (g .num *ℤ pos (f .den)) (abs-product (f .num) (pos (g .den)) {l = g .den} (h (p .0)) (omega arith)) (abs-product (g .num) (pos (f .den)) {l = f .den} (k (p .1)) (omega arith)))
+
+pub small-less : (f g : Frac) (A B : ℕ) → Small f A → Small g B → Small (f -ᶠ g) (A + B)
+unfolding Small
+small-less f g A B h k q =
+    let p = factors (f .den) (g .den) q in
+    omega (arith, abs-less (f .num *ℤ pos (g .den)) (g .num *ℤ pos (f .den)) (abs-product (f .num) (pos (g .den)) {l = g .den} (h (p .0)) (omega arith)) (abs-product (g .num) (pos (f .den)) {l = f .den} (k (p .1)) (omega arith)))
+
+pub small-product : (f g : Frac) (A B : ℕ) → Small f A → Small g B → Small (f ×ᶠ g) (A * B)
+unfolding Small
+small-product f g A B h k q =
+    let p = factors (f .den) (g .den) q in
+    omega (arith, abs-product (f .num) (g .num) (h (p .0)) (k (p .1)))
+
+-- ---- rounded
+floor-zero : (n : ℤ) → natAbs (floor n 0) ≤ 1
+unfolding floor
+floor-zero (pos a) = omega (arith, div-zero a)
+floor-zero (negsuc a) = omega (arith, div-zero a)
+
+round-small : (n r : ℤ) (d B : ℕ) → 0 < d → natAbs (pos (2 * d) *ℤ r -ℤ pos 2 *ℤ n) ≤ d → natAbs n ≤ B * d → natAbs r ≤ B + 1
+round-small n r d B p h l =
+    le-of-mul-le-mul-right {k = d} (omega (arith, abs-mul (pos (2 * d)) r, abs-mul (pos 2) n, split (pos (2 * d) *ℤ r) (pos 2 *ℤ n))) p
+  where
+    split : (a b : ℤ) → natAbs a ≤ natAbs (a -ℤ b) + natAbs b
+    split a b =
+        let x = abs? (int a ⊖ int b) (natAbs (a -ℤ b)) (omega arith) in
+        let y = abs? (int b) (natAbs b) (omega arith) in
+        abs! (int a) (natAbs (a -ℤ b) + natAbs b) (omega arith) (omega arith)
+
+pub rounded-small : (f : Frac) (B : ℕ) → Small f B → natAbs (rounded f) ≤ B + 1
+unfolding Small rounded round
+rounded-small f B h = go (decLt 0 (f .den))
+  where
+    go : Dec (0 < f .den) → natAbs (rounded f) ≤ B + 1
+    go (yes p) = (round-small (f .num) (round (f .num) (f .den)) (f .den) B p (round-near (f .num) (f .den) p) (h p))
+    go (no p) =
+        let e : f .den ≡ 0 = omega arith in
+        subst (λ (d : ℕ). natAbs (floor (pos 2 *ℤ f .num +ℤ pos d) (2 * d)) ≤ B + 1) (sym e) (omega (arith, floor-zero (pos 2 *ℤ f .num +ℤ pos 0)))
