@@ -1,15 +1,15 @@
 -- The height in a vertical curve: the sizes of what its computation meets, and that its parts make the exact numerator.
-use mathlib.Core.Path.{_≡_, refl, sym, ap, ap₂, _∙_, subst}
+use mathlib.Core.Path.{_≡_, ap, ap₂, _∙_}
 use mathlib.Core.List.{[], _∷_}
 use Prim.Native.Nat.{ℕ, _+_, _*_, _≤_, _<_}
 use native.Mathlib.Omega.{arith}
-use native.Mathlib.Nat.{mul-le-mul, mul-le-mul-right}
-use lib.IntN.{ℤ, pos, negsuc, _+ℤ_, _-ℤ_, _*ℤ_, natAbs}
-use lib.Signed.{_≤ℤ_, _<ℤ_}
+use native.Mathlib.Nat.{mul-le-mul-right}
+use lib.IntN.{ℤ, pos, _+ℤ_, _*ℤ_, natAbs}
+use lib.Signed.{_<ℤ_}
 use mir.Syntax.{w64}
 use mir.Val.{SFits}
 use Rattle.integers.specs.Bridge.{nat, _⊕_, _⊗_, le!, lt!, abs-add, abs-mul, abs-product}
-use Rattle.integers.specs.Ring.{_:+_, _:-_, _:*_, #, ring, v0, v1, v2, v3, v4, v5}
+use Rattle.integers.specs.Ring.{_:+_, _:*_, #, ring, v0, v1, v2, v3}
 use Rattle.integers.specs.Fraction.{_÷_}
 use Rattle.integers.specs.Rounding.{floor, left, round, rounded, left-small}
 use Rattle.integers.specs.Width.{fits64, divisor, above-zero, parts-sum, small-parts, RoundParts}

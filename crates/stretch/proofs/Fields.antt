@@ -1,14 +1,14 @@
 -- What a sound stretch and station give: every field fits 64 bits, and the small functions get what they ask.
-use mathlib.Core.Path.{_≡_, refl, sym, ap, ap₂, _∙_, subst}
+use mathlib.Core.Path.{_≡_, sym, ap, ap₂, _∙_}
 use Prim.Native.Nat.{ℕ, _+_, _*_, _≤_, _<_}
 use native.Mathlib.Omega.{arith}
-use native.Mathlib.Nat.{mul-le-mul, mul-le-mul-left}
-use lib.IntN.{ℤ, pos, negsuc, _+ℤ_, _-ℤ_, _*ℤ_, natAbs}
+use native.Mathlib.Nat.{mul-le-mul}
+use lib.IntN.{ℤ, pos, negsuc, _+ℤ_, _*ℤ_, natAbs}
 use lib.Signed.{_≤ℤ_, _<ℤ_}
 use mir.Syntax.{w64}
 use mir.Val.{SFits, ofZ}
-use Rattle.integers.specs.Bridge.{int, nat, _⊕_, _⊖_, _⊗_, eq!, le!, lt!, lt?, abs!, abs?, abs-add, abs-mul}
-use Rattle.integers.specs.Fraction.{Frac, _÷_, whole}
+use Rattle.integers.specs.Bridge.{int, nat, _⊕_, _⊖_, _⊗_, le!, lt!, abs!, abs?, abs-add}
+use Rattle.integers.specs.Fraction.{_÷_, whole}
 use Rattle.integers.specs.Rounding.{round, rounded, nearest-is}
 use Rattle.integers.specs.Width.{fits64, above-zero}
 use Rattle.road.specs.Exact.{Side, left, right}

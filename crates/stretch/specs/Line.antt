@@ -1,10 +1,10 @@
 -- A line in two halves of four numbers; and what a stretch that shows the road says of its line.
-use mathlib.Core.Path.{_≡_, refl, sym, ap, ap₂, _∙_}
+use mathlib.Core.Path.{_≡_, ap}
 use mathlib.Core.List.{List, [], _∷_, _++_, append-assoc}
-use Prim.Native.Nat.{ℕ, suc, _+_, _*_, _≤_, _<_}
+use Prim.Native.Nat.{ℕ, suc, _+_, _*_, _≤_}
 use native.Mathlib.Omega.{arith}
-use lib.IntN.{ℤ, pos, _+ℤ_, natAbs}
-use lib.ListN.{length, length-append}
+use lib.IntN.{ℤ, pos, _+ℤ_}
+use lib.ListN.{length}
 use Rattle.integers.specs.Bridge.{abs-add}
 use Rattle.integers.specs.Rounding.{rounded, rounded-value}
 use Rattle.decimal.specs.Decimal.{decimal, spaced}
@@ -12,7 +12,7 @@ use Rattle.decimal.specs.ReadBack.{All}
 use Rattle.decimal.specs.ReadBack as R
 use Rattle.decimal.specs.Length.{Short, spaced-length}
 use Rattle.road.specs.File.{Road}
-use Rattle.road.specs.Exact.{Side, left, right, height, grade, crossfall, edgeDrop, curvature}
+use Rattle.road.specs.Exact.{Side, left, right}
 use Rattle.road.specs.Line.{printed, printedEdge, line}
 use Rattle.stretch.specs.Stretch.{Sound, Shows, heightIn, gradeIn, crossfallIn, dropIn, curvatureIn, numbersIn, listOf, lineIn}
 use Rattle.stretch.specs.Short.{height-size, grade-size, crossfall-size, drop-size, curvature-size}

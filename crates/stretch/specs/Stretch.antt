@@ -1,7 +1,5 @@
 -- What the numbers of a stretch say of a station: fractions of whole numbers, before they are rounded.
 use Prim.Native.Nat.{ℕ, _+_, _*_, _≤_, _<_}
-use mathlib.Core.Path.{_≡_}
-use mathlib.Core.Bool.{Bool, true, false}
 use mathlib.Core.List.{List, [], _∷_}
 use lib.Dec.{eqb}
 use lib.IntN.{ℤ, pos, _+ℤ_, _-ℤ_, _*ℤ_, natAbs}
@@ -68,6 +66,7 @@ numbersIn s x = record {
   curvature = rounded (curvatureIn s x);
 }
 
+-- in the order of a line
 abbrev pub listOf : Numbers → List ℤ
 listOf n = n .station ∷ n .height ∷ n .grade ∷ n .left ∷ n .right ∷ n .«left_edge» ∷ n .«right_edge» ∷ n .curvature ∷ []
 

@@ -1,9 +1,9 @@
 ghost use mathlib.Core.Path.{_≡_};
 ghost use Prim.Native.Nat.{_+_, _*_, _≤_, _<_};
-ghost use lib.IntN.{pos, _+ℤ_, _-ℤ_, _*ℤ_, natAbs};
+ghost use lib.IntN.{pos, _+ℤ_, _*ℤ_, natAbs};
 ghost use lib.ListN.{length};
 ghost use Rattle.integers.specs.Fraction.{_÷_};
-ghost use Rattle.integers.specs.Rounding.{round, rounded};
+ghost use Rattle.integers.specs.Rounding.{rounded};
 ghost use Rattle.decimal.specs.Written.{Wrote};
 ghost use Rattle.stretch.specs.Stretch.{Sound, past, heightIn, gradeIn, curvatureIn, numbersIn, lineIn};
 ghost use Rattle.stretch.specs.Line.{four};

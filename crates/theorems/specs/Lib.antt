@@ -7,7 +7,6 @@ pub mod Sums
 pub mod Last
 pub mod Items
 pub mod Small
-pub mod Length
 -- what an accepted road guarantees; which files are turned away
 pub mod Table
 pub mod Refusals

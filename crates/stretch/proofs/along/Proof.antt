@@ -1,4 +1,3 @@
-use mathlib.Core.Path.{refl}
 use mir.Facts.{toZ-ofZ}
 use Rattle.stretch.proofs.Laws.{rise-fits, along-fits}
 use Rattle.stretch.proofs.along.Statement.{statement}

@@ -1,0 +1,139 @@
+#!/usr/bin/env python3
+"""Makes the benchmark's files: bench/make_inputs.py FOLDER
+
+    largest.in   100 km, a row every metre, all lists as long as a road can have them
+    usual.in     5 km, a row every 20 m
+    refused.in   the largest road, with a crossfall that changes on the last arc (R 19 194)
+
+The files are the same at every run.
+"""
+import pathlib
+import sys
+
+STRAIGHT, ARC, CLOTHOID = 0, 1, 2
+ROOF = (-25_000, -25_000)
+
+
+def number(n):
+    """Seven bits to a byte, lowest group first."""
+    out = bytearray()
+    while n > 127:
+        out.append(n & 127 | 128)
+        n >>= 7
+    out.append(n)
+    return bytes(out)
+
+
+def signed(v):
+    return number(2 * v if v >= 0 else -2 * v - 1)
+
+
+def encode(class_, terrain, step, ramp_limit, elements, height, tangents, points):
+    out = [number(class_), number(terrain), number(step), number(ramp_limit)]
+    out.append(number(len(elements)))
+    for kind, length, radius in elements:
+        out += [number(kind), number(length)]
+        if kind == ARC:
+            out.append(signed(radius))
+    out += [signed(height), number(len(tangents))]
+    for i, (length, grade, half) in enumerate(tangents):
+        out += [number(length), signed(grade)]
+        if i < len(tangents) - 1:
+            out.append(number(half))
+    out.append(number(len(points)))
+    for station, left, right in points:
+        out += [number(station), signed(left), signed(right)]
+    return b"".join(out)
+
+
+def plan(straights, bends):
+    """Elements of straights and bends in turn, and the points of the bends' crossfalls: the ramps
+    lie on the clothoids. A bend is clothoid length, arc length, radius, clothoid length, crossfall
+    (None for the roof)."""
+    elements = [(STRAIGHT, straights[0], 0)]
+    points = []
+    station = straights[0]
+    for (into, arc, radius, out, crossfall), straight in zip(bends, straights[1:]):
+        if crossfall is None:
+            tilt = ROOF
+        elif radius > 0:
+            tilt = (crossfall, -crossfall)
+        else:
+            tilt = (-crossfall, crossfall)
+        points += [
+            (station, *ROOF),
+            (station + into, *tilt),
+            (station + into + arc, *tilt),
+            (station + into + arc + out, *ROOF),
+        ]
+        elements += [(CLOTHOID, into, 0), (ARC, arc, radius), (CLOTHOID, out, 0)]
+        elements.append((STRAIGHT, straight, 0))
+        station += into + arc + out + straight
+    return elements, points, station
+
+
+def largest(change_on_last_arc=0):
+    """40 km/h: no rule for straights. 197 elements, 100 tangents, 200 crossfall points."""
+    total = 100_000_000
+    lengths = [507_001 + i * 7919 % 1201 for i in range(196)]
+    lengths.append(total - sum(lengths))
+    bends = []
+    for b in range(49):
+        into, arc, out = lengths[4 * b + 1 : 4 * b + 4]
+        radius = (45_000 + 61_003 * b) * (-1 if b % 3 == 1 else 1)
+        bends.append((into, arc, radius, out, 25_000 + 977 * b % 45_000))
+    elements, points, length = plan(lengths[::4], bends)
+    assert length == total and len(elements) == 197
+    points = [(0, *ROOF), (253_507, *ROOF), *points]
+    points += [(total - 253_507, *ROOF), (total, *ROOF)]
+    assert len(points) == 200
+    if change_on_last_arc:
+        station, left, right = points[-4]
+        points[-4] = (station, left, right + change_on_last_arc)
+
+    tangents = []
+    for i in range(99):
+        grade = 40_000 + i // 2 * 6151 % 60_000 + i % 7
+        half = 400_003 + i * 3571 % 50_000
+        tangents.append((999_503 + i * 577 % 1009, grade if i % 2 == 0 else -grade, half))
+    rest = total - sum(t[0] for t in tangents)
+    tangents.append((rest, -30_000, 0))
+    return encode(4, 3, 1_000, 5_000, elements, 1_000_000, tangents, points)
+
+
+def usual():
+    """80 km/h: four bends, one of them with a roof, and five vertical curves."""
+    bends = [
+        (80_000, 240_350, 350_000, 80_000, 50_000),
+        (90_000, 310_125, -400_000, 90_000, 45_000),
+        (60_000, 400_000, 2_600_000, 60_000, None),
+        (100_000, 280_480, -300_000, 100_000, 60_000),
+    ]
+    straights = [600_200, 450_700, 700_333, 520_412]
+    total = 5_000_000
+    straights.append(total - sum(straights) - sum(b[0] + b[1] + b[3] for b in bends))
+    elements, points, length = plan(straights, bends)
+    assert length == total
+    points = [(0, *ROOF), *points, (total, *ROOF)]
+    tangents = [
+        (800_000, 20_000, 90_000),
+        (900_000, -15_000, 80_000),
+        (700_000, 30_000, 150_000),
+        (1_100_000, -40_000, 70_000),
+        (900_000, 5_000, 60_000),
+        (600_000, -20_000, 0),
+    ]
+    return encode(2, 2, 20_000, 5_000, elements, 212_345, tangents, points)
+
+
+def main():
+    if len(sys.argv) != 2:
+        sys.exit(__doc__.strip())
+    folder = pathlib.Path(sys.argv[1])
+    folder.mkdir(parents=True, exist_ok=True)
+    (folder / "largest.in").write_bytes(largest())
+    (folder / "usual.in").write_bytes(usual())
+    (folder / "refused.in").write_bytes(largest(change_on_last_arc=1))
+
+
+main()

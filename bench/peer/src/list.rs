@@ -1,0 +1,388 @@
+//! The list of an accepted road, in one walk along the three lists.
+//!
+//! A stretch lies between two neighbouring joints (element ends, curve ends, vertices, crossfall
+//! points). In it the height is one quadratic, the other numbers are linear in the station. Each
+//! rounding is a floor with half a unit added; a bias keeps its dividend from being negative.
+
+use std::io::{self, Write};
+
+use crate::decimal::{Pen, NUMBER_MAX};
+use crate::limits::Row;
+use crate::read::{Alignment, ARC, CLOTHOID};
+
+const BUFFER: usize = 65_536;
+/// The most bytes of a row: eight numbers, each with a space or newline.
+const LINE_MAX: usize = 8 * (NUMBER_MAX + 1);
+
+/// floor((start + slope × distance) / divisor) − bias; `flat` where the slope is 0.
+#[derive(Clone, Copy)]
+struct Linear {
+    origin: i64,
+    start: i64,
+    slope: i64,
+    divisor: u64,
+    bias: i64,
+    flat: i64,
+}
+
+impl Linear {
+    fn constant(flat: i64) -> Self {
+        Linear {
+            origin: 0,
+            start: 0,
+            slope: 0,
+            divisor: 1,
+            bias: 0,
+            flat,
+        }
+    }
+
+    /// round((value + slope × (s − origin)) / divisor), its size being below the bias.
+    fn new(origin: i64, value: i64, slope: i64, divisor: i64, bias: i64) -> Self {
+        let start = 2 * (value + bias * divisor) + divisor;
+        if slope == 0 {
+            return Self::constant(start / (2 * divisor) - bias);
+        }
+        let divisor = 2 * divisor as u64;
+        Linear {
+            origin,
+            start,
+            slope: 2 * slope,
+            divisor,
+            bias,
+            flat: 0,
+        }
+    }
+
+    #[inline(always)]
+    fn at(&self, s: i64) -> i64 {
+        if self.slope == 0 {
+            return self.flat;
+        }
+        let n = self.start + self.slope * (s - self.origin);
+        (n as u64 / self.divisor) as i64 - self.bias
+    }
+}
+
+/// In mm; no height of a road is as large in size.
+const HEIGHT_BIAS: i64 = 20_000_000;
+
+/// Height and grade: a tangent, prolonged, and in a vertical curve the parabola added to it.
+#[derive(Clone, Copy)]
+struct Profile {
+    begin: i64,
+    /// At the begin, in millionths of a mm, with half a mm and the bias added.
+    height: i64,
+    tangent_grade: i64,
+    grade: Linear,
+    /// |g2 − g1|; 0 outside curves.
+    bend: u64,
+    hogging: bool,
+    four_halves: u64,
+}
+
+impl Profile {
+    #[inline(always)]
+    fn height(&self, s: i64) -> i64 {
+        let u = s - self.begin;
+        let mut n = self.height + self.tangent_grade * u;
+        if self.bend != 0 {
+            let rise = self.bend * (u * u) as u64;
+            if self.hogging {
+                n -= rise.div_ceil(self.four_halves) as i64;
+            } else {
+                n += (rise / self.four_halves) as i64;
+            }
+        }
+        (n as u64 / 1_000_000) as i64 - HEIGHT_BIAS
+    }
+}
+
+/// Walks along the tangents and their curves.
+struct ProfileCursor<'a> {
+    road: &'a Alignment,
+    /// The tangent that is prolonged.
+    tangent: usize,
+    in_curve: bool,
+    /// Where the tangent begins and its exact height there, in millionths of a mm.
+    vertex: i64,
+    vertex_height: i64,
+    end: i64,
+    now: Profile,
+}
+
+impl<'a> ProfileCursor<'a> {
+    fn new(road: &'a Alignment) -> Self {
+        let first = &road.tangents[0];
+        let height = road.start_height as i64 * 1_000_000;
+        let grade = first.grade as i64;
+        ProfileCursor {
+            road,
+            tangent: 0,
+            in_curve: false,
+            vertex: 0,
+            vertex_height: height,
+            end: (first.length - first.half) as i64,
+            now: Self::straight(0, height, grade),
+        }
+    }
+
+    fn straight(begin: i64, height: i64, grade: i64) -> Profile {
+        Profile {
+            begin,
+            height: height + 500_000 + HEIGHT_BIAS * 1_000_000,
+            tangent_grade: grade,
+            grade: Linear::constant(grade),
+            bend: 0,
+            hogging: false,
+            four_halves: 1,
+        }
+    }
+
+    /// Goes on to the piece that holds the stations just after s, which is below T.
+    fn advance(&mut self, s: i64) {
+        while self.end <= s {
+            let t = &self.road.tangents[self.tangent];
+            let half = t.half as i64;
+            if !self.in_curve && half > 0 {
+                let next = &self.road.tangents[self.tangent + 1];
+                let grade = t.grade as i64;
+                let change = next.grade as i64 - grade;
+                let begin = self.end;
+                let height = self.vertex_height + grade * (begin - self.vertex);
+                self.now = Profile {
+                    grade: Linear::new(begin, grade * 2 * half, change, 2 * half, 120_001),
+                    bend: change.unsigned_abs(),
+                    hogging: change < 0,
+                    four_halves: 4 * half as u64,
+                    ..Self::straight(begin, height, grade)
+                };
+                self.in_curve = true;
+                self.end = begin + 2 * half;
+            } else {
+                self.vertex += t.length as i64;
+                self.vertex_height += t.length as i64 * t.grade as i64;
+                self.tangent += 1;
+                self.in_curve = false;
+                let t = &self.road.tangents[self.tangent];
+                self.now = Self::straight(self.vertex, self.vertex_height, t.grade as i64);
+                self.end = self.vertex + (t.length - t.half) as i64;
+            }
+        }
+    }
+}
+
+/// Walks along the plan elements.
+struct PlanCursor<'a> {
+    road: &'a Alignment,
+    element: usize,
+    end: i64,
+    curvature: Linear,
+}
+
+impl<'a> PlanCursor<'a> {
+    fn new(road: &'a Alignment) -> Self {
+        let end = road.elements[0].length as i64;
+        PlanCursor {
+            road,
+            element: 0,
+            end,
+            curvature: Linear::constant(0),
+        }
+    }
+
+    fn advance(&mut self, s: i64) {
+        while self.end <= s {
+            let begin = self.end;
+            self.element += 1;
+            let i = self.element;
+            let e = &self.road.elements[i];
+            self.end += e.length as i64;
+            self.curvature = match e.kind {
+                ARC => {
+                    let radius = e.radius as i64;
+                    let value = 1_000_000_000 * radius.signum();
+                    Linear::new(0, value, 0, radius.abs(), 100_001)
+                }
+                CLOTHOID => {
+                    let inward = i % 4 == 1;
+                    let arc = &self.road.elements[if inward { i + 1 } else { i - 1 }];
+                    let radius = arc.radius as i64;
+                    let sign = if inward {
+                        radius.signum()
+                    } else {
+                        -radius.signum()
+                    };
+                    let zero = if inward { begin } else { self.end };
+                    let divisor = radius.abs() * e.length as i64;
+                    let bias = 1_000_000_000 / radius.abs() + 1;
+                    Linear::new(zero, 0, sign * 1_000_000_000, divisor, bias)
+                }
+                _ => Linear::constant(0),
+            };
+        }
+    }
+}
+
+/// One side of the roadway between two crossfall points.
+#[derive(Clone, Copy)]
+struct Side {
+    crossfall: Linear,
+    drop: Linear,
+}
+
+impl Side {
+    fn new(begin: i64, length: i64, from: i32, to: i32, lane: i64) -> Self {
+        let (value, slope) = (from as i64 * length, (to - from) as i64);
+        Side {
+            crossfall: Linear::new(begin, value, slope, length, 80_001),
+            drop: Linear::new(begin, value * lane, slope * lane, length * 1_000_000, 301),
+        }
+    }
+}
+
+/// Walks along the crossfall points.
+struct CrossfallCursor<'a> {
+    road: &'a Alignment,
+    lane: i64,
+    point: usize,
+    end: i64,
+    left: Side,
+    right: Side,
+}
+
+impl<'a> CrossfallCursor<'a> {
+    fn new(road: &'a Alignment, lane: i64) -> Self {
+        let side = Side {
+            crossfall: Linear::constant(0),
+            drop: Linear::constant(0),
+        };
+        let mut cursor = CrossfallCursor {
+            road,
+            lane,
+            point: 0,
+            end: 0,
+            left: side,
+            right: side,
+        };
+        cursor.pair();
+        cursor
+    }
+
+    fn pair(&mut self) {
+        let p = &self.road.points[self.point];
+        let q = &self.road.points[self.point + 1];
+        let begin = p.station as i64;
+        self.end = q.station as i64;
+        let length = self.end - begin;
+        self.left = Side::new(begin, length, p.left, q.left, self.lane);
+        self.right = Side::new(begin, length, p.right, q.right, self.lane);
+    }
+
+    fn advance(&mut self, s: i64) {
+        while self.end <= s {
+            self.point += 1;
+            self.pair();
+        }
+    }
+}
+
+/// All that the rows of one stretch need.
+struct Stretch {
+    profile: Profile,
+    left: Side,
+    right: Side,
+    curvature: Linear,
+}
+
+impl Stretch {
+    /// # Safety
+    /// `LINE_MAX` bytes from the pen's place may be written.
+    #[inline(always)]
+    unsafe fn row(&self, pen: &mut Pen, s: i64) {
+        let height = self.profile.height(s);
+        pen.plain(s as u32);
+        pen.byte(b' ');
+        pen.signed(height as i32);
+        pen.byte(b' ');
+        pen.signed(self.profile.grade.at(s) as i32);
+        pen.byte(b' ');
+        pen.signed(self.left.crossfall.at(s) as i32);
+        pen.byte(b' ');
+        pen.signed(self.right.crossfall.at(s) as i32);
+        pen.byte(b' ');
+        pen.signed((height + self.left.drop.at(s)) as i32);
+        pen.byte(b' ');
+        pen.signed((height + self.right.drop.at(s)) as i32);
+        pen.byte(b' ');
+        pen.signed(self.curvature.at(s) as i32);
+        pen.byte(b'\n');
+    }
+}
+
+struct Output<'a, W: Write> {
+    sink: &'a mut W,
+    buffer: Box<[u8]>,
+    used: usize,
+}
+
+impl<W: Write> Output<'_, W> {
+    #[inline(always)]
+    fn row(&mut self, stretch: &Stretch, s: i64) -> io::Result<()> {
+        if BUFFER - self.used < LINE_MAX {
+            self.flush()?;
+        }
+        let base = self.buffer.as_mut_ptr();
+        // SAFETY: used + LINE_MAX is at most BUFFER, the buffer's length.
+        unsafe {
+            let mut pen = Pen::at(base.add(self.used));
+            stretch.row(&mut pen, s);
+            self.used = pen.place().offset_from(base) as usize;
+        }
+        Ok(())
+    }
+
+    fn flush(&mut self) -> io::Result<()> {
+        self.sink.write_all(&self.buffer[..self.used])?;
+        self.used = 0;
+        Ok(())
+    }
+}
+
+/// Writes the rows of all listed stations, in order. The road passed every rule, with this row.
+pub fn list<W: Write>(road: &Alignment, row: &Row, sink: &mut W) -> io::Result<()> {
+    let total: i64 = road.elements().iter().map(|e| e.length as i64).sum();
+    let step = road.step as i64;
+    let mut plan = PlanCursor::new(road);
+    let mut profile = ProfileCursor::new(road);
+    let mut crossfall = CrossfallCursor::new(road, row.lane);
+    let mut out = Output {
+        sink,
+        buffer: vec![0; BUFFER].into_boxed_slice(),
+        used: 0,
+    };
+
+    let mut multiple = 0; // the least multiple of step not yet listed
+    let mut joint = 0; // the last joint listed
+    while joint < total {
+        plan.advance(joint);
+        profile.advance(joint);
+        crossfall.advance(joint);
+        joint = plan.end.min(profile.end).min(crossfall.end);
+        let stretch = Stretch {
+            profile: profile.now,
+            left: crossfall.left,
+            right: crossfall.right,
+            curvature: plan.curvature,
+        };
+        while multiple < joint {
+            out.row(&stretch, multiple)?;
+            multiple += step;
+        }
+        out.row(&stretch, joint)?;
+        if multiple == joint {
+            multiple += step;
+        }
+    }
+    out.flush()
+}

@@ -1,0 +1,32 @@
+use borrow.Author.Tests.{eq-eqb, ne-eqb}
+use mir.Syntax.{w32}
+use mir.Val.{SFits}
+use mir.Facts.{toZ-ofZ}
+use Rattle.items.specs.Tests.{arcTest}
+use borrow.Author.Needs.{needs}
+use Rattle.items.proofs.arc_fails.Statement.{statement}
+use Rattle.items.proofs.arc_fails.Tie as tie
+
+changes-in-requires : tie.Need-changes-in-requires
+changes-in-requires c κs = search needs
+
+cast-result : tie.Need-cast-result
+cast-result c = search needs
+
+is-allowed-requires : tie.Need-is-allowed-requires
+is-allowed-requires c κs = search needs
+
+returns : tie.Need-returns
+unfolding arcTest
+returns c =
+    let s = c .before .before .before .before .before .before in
+    let f : SFits w32 (s .args .e .radius) = record { sfits = c .before .struct-told .given .1 .1 .0 .1 } in
+    rw (eq-eqb (s .args .e .kind) 1 (c .before .before .before .before .if1 .taken), c .before .before .before .changes-in .ensures, c .is-allowed .ensures, toZ-ofZ f)
+
+returns-2 : tie.Need-returns-2
+unfolding arcTest
+returns-2 c = rw (ne-eqb (c .before .before .args .e .kind) 1 (c .if1 .left))
+
+pub arc-fails-spec : {M : Type 1} → statement M
+arc-fails-spec =
+    tie.close (tie.spec changes-in-requires cast-result is-allowed-requires returns returns-2)

@@ -1,0 +1,34 @@
+use mir.Syntax.{w32}
+use mir.Val.{SFits}
+use mir.Facts.{toZ-ofZ}
+use Rattle.items.specs.Tests.{changesIn}
+use borrow.Author.Needs.{needs}
+use Rattle.items.proofs.changes_in.Statement.{statement}
+use Rattle.items.proofs.changes_in.Tie as tie
+
+are-equal-requires : tie.Need-are-equal-requires
+are-equal-requires c κs = search needs
+
+are-equal-requires-2 : tie.Need-are-equal-requires-2
+are-equal-requires-2 c κs = search needs
+
+cast-result : tie.Need-cast-result
+cast-result c = search needs
+
+cast-result-2 : tie.Need-cast-result-2
+cast-result-2 c = search needs
+
+returns : tie.Need-returns
+unfolding changesIn
+returns c =
+    let p = c .before .before .before .before .before .before .before .before .args .p in
+    let q = c .before .before .before .before .before .before .before .before .args .q in
+    let f : SFits w32 (p .left) = record { sfits = c .before .before .before .before .before .before .before .struct-told .given .1 .0 .1 } in
+    let g : SFits w32 (q .left) = record { sfits = c .before .before .before .before .before .before .struct-told2 .given .1 .0 .1 } in
+    let h : SFits w32 (p .right) = record { sfits = c .before .before .before .before .struct-told3 .given .1 .1 .0 .1 } in
+    let k : SFits w32 (q .right) = record { sfits = c .before .before .before .struct-told4 .given .1 .1 .0 .1 } in
+    rw (c .before .before .before .before .before .are-equal .ensures, c .before .before .are-equal2 .ensures, toZ-ofZ f, toZ-ofZ g, toZ-ofZ h, toZ-ofZ k)
+
+pub changes-in-spec : {M : Type 1} → statement M
+changes-in-spec =
+    tie.close (tie.spec are-equal-requires are-equal-requires-2 cast-result cast-result-2 returns)

@@ -1,0 +1,26 @@
+use mir.Syntax.{w32}
+use mir.Val.{SFits}
+use mir.Facts.{toZ-ofZ}
+use borrow.Author.Needs.{needs}
+use Rattle.items.proofs.is_crowned.Statement.{statement}
+use Rattle.items.proofs.is_crowned.Tie as tie
+
+are-equal-requires : tie.Need-are-equal-requires
+are-equal-requires c κs = search needs
+
+are-equal-requires-2 : tie.Need-are-equal-requires-2
+are-equal-requires-2 c κs = search needs
+
+size-requires : tie.Need-size-requires
+size-requires c κs = search needs
+
+returns : tie.Need-returns
+returns c =
+    let s = c .before .before .before .before .before .before .before in
+    let f : SFits w32 (s .args .p .left) = record { sfits = c .before .before .before .before .before .before .struct-told .given .1 .0 .1 } in
+    let g : SFits w32 (s .args .p .right) = record { sfits = c .before .before .before .before .struct-told2 .given .1 .1 .0 .1 } in
+    rw (c .before .before .before .before .before .are-equal .ensures, c .before .before .before .are-equal2 .ensures, c .before .size .ensures, toZ-ofZ f, toZ-ofZ g, toZ-ofZ (s .fits .radius))
+
+pub is-crowned-spec : {M : Type 1} → statement M
+is-crowned-spec =
+    tie.close (tie.spec are-equal-requires are-equal-requires-2 size-requires returns)

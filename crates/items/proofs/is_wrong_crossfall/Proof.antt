@@ -1,0 +1,25 @@
+use mir.Syntax.{w32}
+use mir.Val.{SFits}
+use mir.Facts.{toZ-ofZ}
+use Rattle.items.specs.Tests.{wrongCrossfallIn}
+use borrow.Author.Needs.{needs}
+use Rattle.items.proofs.is_wrong_crossfall.Statement.{statement}
+use Rattle.items.proofs.is_wrong_crossfall.Tie as tie
+
+is-wrong-side-requires : tie.Need-is-wrong-side-requires
+is-wrong-side-requires c κs = search needs
+
+is-wrong-side-requires-2 : tie.Need-is-wrong-side-requires-2
+is-wrong-side-requires-2 c κs = search needs
+
+returns : tie.Need-returns
+unfolding wrongCrossfallIn
+returns c =
+    let p = c .before .before .before .before .args .p in
+    let f : SFits w32 (p .left) = record { sfits = c .before .before .before .struct-told .given .1 .0 .1 } in
+    let g : SFits w32 (p .right) = record { sfits = c .before .struct-told2 .given .1 .1 .0 .1 } in
+    rw (c .before .before .is-wrong-side .ensures, c .is-wrong-side2 .ensures, toZ-ofZ f, toZ-ofZ g)
+
+pub is-wrong-crossfall-spec : {M : Type 1} → statement M
+is-wrong-crossfall-spec =
+    tie.close (tie.spec is-wrong-side-requires is-wrong-side-requires-2 returns)

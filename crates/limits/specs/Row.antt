@@ -1,0 +1,28 @@
+-- The struct of a row of limits, as the definitions have it.
+use Prim.Native.Nat.{ℕ}
+use mathlib.Core.List.{[]}
+use lib.ListN.{getD}
+use Rattle.road.specs.Limits.{limitsIn, table}
+use Rattle.road.specs.Limits as road
+use Rattle.limits.specs.declared.Limits.{Limits}
+
+-- refusal 17 has the two crossfalls
+abbrev pub asLimits : Limits → road.Limits
+asLimits l = record {
+  straightMax = l .«straight_max»;
+  straightMin = l .«straight_min»;
+  radiusMin = l .«radius_min»;
+  radiusBoth = l .«radius_both»;
+  parameterMin = l .«parameter_min»;
+  arcMin = l .«arc_min»;
+  gradeMax = l .«grade_max»;
+  sagRadius = l .«sag_radius»;
+  crestRadius = l .«crest_radius»;
+  lane = l .lane;
+  crossfallMin = 25000;
+  crossfallMax = 70000;
+}
+
+-- the limits of a row of the table
+unfoldable pub limitsInRow : ℕ → road.Limits
+limitsInRow row = limitsIn (getD table row [])

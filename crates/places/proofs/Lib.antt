@@ -1,0 +1,8 @@
+pub mod Widths
+pub mod Cursors
+pub mod Grades
+pub mod Profiles
+pub mod PieceFacts
+pub mod Curvatures
+pub mod Views
+pub mod Found

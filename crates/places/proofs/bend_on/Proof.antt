@@ -1,0 +1,124 @@
+use mathlib.Core.Path.{_≡_, sym, ap, ap₂, _∙_, subst}
+use Prim.Native.Nat.{ℕ, suc, _+_, _-_, _<_}
+use native.Mathlib.Omega.{arith}
+use native.Mathlib.Numerals.{add-one}
+use lib.ListN.{length}
+use lib.IntN.{ℤ}
+use mir.Syntax.{w32}
+use mir.Val.{SFits}
+use mir.Facts.{toZ-ofZ}
+use Rattle.road.specs.Exact.{elementOf}
+use Rattle.road.specs.Held.{roadIn}
+use Rattle.road.specs.declared.Element.{Element}
+use Rattle.places.specs.Bends.{arcBend, inBend, outBend, Curved}
+use Rattle.places.proofs.Cursors.{element-within, element-item}
+use Rattle.places.proofs.Curvatures.{clothoid-inside, straight-curved, arc-curved, after-arc, before-arc, other-kind}
+use borrow.Author.Needs.{needs}
+use Rattle.places.proofs.bend_on.Statement.{statement}
+use Rattle.places.proofs.bend_on.Tie as tie
+
+mul-e : tie.Need-mul-e
+mul-e c = search needs
+
+element-copy-out-e : tie.Need-element-copy-out-e
+element-copy-out-e c = search needs
+
+arc-bend-requires : tie.Need-arc-bend-requires
+arc-bend-requires c κs = search needs
+
+returns : tie.Need-returns
+returns c =
+    let s = c .before .before .before .before .before in
+    let a = s .args .t1 in
+    let i = s .args .i in
+    let q = element-item a i (element-within a i (s .pre .1)) in
+    let k : elementOf (roadIn a) i .kind ≡ 1 = ap (λ (e : Element). e .kind) (sym q) ∙ c .before .before .if1 .taken in
+    let f : SFits w32 _ = record { sfits = c .before .struct-told .given .1 .1 .0 .1 } in
+    subst (Curved (roadIn a) i) (sym (c .arc-bend .ensures ∙ ap arcBend (toZ-ofZ f ∙ ap (λ (e : Element). e .radius) q))) (arc-curved (s .pre .0 .road) i (s .pre .1) k)
+
+returns-2 : tie.Need-returns-2
+returns-2 c =
+    let s = c .before .before .before .before .before in
+    let a = s .args .t1 in
+    let i = s .args .i in
+    let q = ap (λ (e : Element). e .kind) (element-item a i (element-within a i (s .pre .1))) in
+    straight-curved (s .pre .0 .road) i (other-kind (s .pre .0 .road) i (s .pre .1) (λ (k : elementOf (roadIn a) i .kind ≡ 1). c .before .before .if1 .left (q ∙ k)) (λ (k : elementOf (roadIn a) i .kind ≡ 2). c .if2 .taken (q ∙ k)))
+
+sub-h : tie.Need-sub-h
+sub-h c =
+    let s = c .before .before .before .before .before in
+    let a = s .args .t1 in
+    let i = s .args .i in
+    let q = ap (λ (e : Element). e .kind) (element-item a i (element-within a i (s .pre .1))) in
+    clothoid-inside (s .pre .0 .road) i (s .pre .1) (sym q ∙ c .if2 .left) .0
+
+mul-before : tie.Need-mul-before
+mul-before c = search needs
+
+element-copy-out-before : tie.Need-element-copy-out-before
+element-copy-out-before c = search needs
+
+out-bend-requires : tie.Need-out-bend-requires
+out-bend-requires c κs = search needs
+
+returns-3 : tie.Need-returns-3
+returns-3 c =
+    let s = c .before .before .before .before .before .before .before .before .before .before in
+    let a = s .args .t1 in
+    let i = s .args .i in
+    let G = s .pre .0 .road in
+    let h = element-within a i (s .pre .1) in
+    let q = element-item a i h in
+    let w = element-item a (i - 1) (omega arith) in
+    let k : elementOf (roadIn a) i .kind ≡ 2 = ap (λ (e : Element). e .kind) (sym q) ∙ c .before .before .before .before .before .if2 .left in
+    let f : SFits w32 _ = record { sfits = c .before .struct-told2 .given .1 .1 .0 .1 } in
+    subst (Curved (roadIn a) i) (sym (c .out-bend .ensures ∙ ap₂ outBend (toZ-ofZ f ∙ ap (λ (e : Element). e .radius) w) (ap (λ (e : Element). e .length) q)))
+    (after-arc G i (s .pre .1) k (ap (λ (e : Element). e .kind) (sym w) ∙ c .before .before .if3 .taken))
+
+add-j : tie.Need-add-j
+add-j c = search needs
+
+mul-next : tie.Need-mul-next
+mul-next c = search needs
+
+element-copy-out-next : tie.Need-element-copy-out-next
+element-copy-out-next c = search needs
+
+in-bend-requires : tie.Need-in-bend-requires
+in-bend-requires c κs = search needs
+
+returns-4 : tie.Need-returns-4
+returns-4 c =
+    let s = c .before .before .before .before .before .before .before .before .before .before .before in
+    let a = s .args .t1 in
+    let i = s .args .i in
+    let G = s .pre .0 .road in
+    let h = element-within a i (s .pre .1) in
+    let q = element-item a i h in
+    let w = element-item a (i - 1) (omega arith) in
+    let k : elementOf (roadIn a) i .kind ≡ 2 = ap (λ (e : Element). e .kind) (sym q) ∙ c .before .before .before .before .before .before .if2 .left in
+    let m = element-within a (suc i) (clothoid-inside G i (s .pre .1) k .1) in
+    let n = element-item a (i + 1) (omega arith) ∙ ap (elementOf (roadIn a)) (add-one i) in
+    let f : SFits w32 _ = record { sfits = c .before .struct-told3 .given .1 .1 .0 .1 } in
+    subst (Curved (roadIn a) i) (sym (c .in-bend .ensures ∙ ap₂ inBend (toZ-ofZ f ∙ ap (λ (e : Element). e .radius) n) (ap (λ (e : Element). e .length) q)))
+    (before-arc G i (s .pre .1) k (λ (z : elementOf (roadIn a) (i - 1) .kind ≡ 1). c .before .before .before .if3 .left (ap (λ (e : Element). e .kind) w ∙ z)))
+
+pub bend-on-spec : {M : Type 1} → statement M
+bend-on-spec =
+    tie.close
+    (tie.spec
+    mul-e
+    element-copy-out-e
+    arc-bend-requires
+    returns
+    returns-2
+    sub-h
+    mul-before
+    element-copy-out-before
+    out-bend-requires
+    returns-3
+    add-j
+    mul-next
+    element-copy-out-next
+    in-bend-requires
+    returns-4)

@@ -1,0 +1,54 @@
+use mathlib.Core.Path.{_≡_, ap, ap₂, _∙_}
+use Prim.Native.Nat.{_-_}
+use native.Mathlib.Omega.{arith}
+use lib.IntN.{ℤ}
+use mir.Syntax.{w32}
+use mir.Val.{SFits}
+use mir.Facts.{toZ-ofZ}
+use Rattle.places.proofs.Widths.{fits32, above, above-fits}
+use borrow.Author.Needs.{needs}
+use Rattle.places.proofs.curve_after.Statement.{statement}
+use Rattle.places.proofs.curve_after.Tie as tie
+
+sub-far : tie.Need-sub-far
+sub-far c = search needs
+
+rise-requires : tie.Need-rise-requires
+rise-requires c κs = search needs
+
+cast-curve-from : tie.Need-cast-curve-from
+cast-curve-from c = search needs
+
+add-curve-from : tie.Need-add-curve-from
+add-curve-from c = search needs
+
+add-curve-from-2 : tie.Need-add-curve-from-2
+add-curve-from-2 c =
+    let s = c .before .before .before .before .before .before in
+    let t = s .args .t in
+    above-fits (s .args .p .height) (t .grade) _ (t .length - t .half) (s .pre .height) (s .pre .grade) (omega (arith, s .pre .length)) (c .before .before .before .rise .ensures)
+
+curve-from-requires : tie.Need-curve-from-requires
+curve-from-requires c κs = search needs
+
+returns : tie.Need-returns
+returns c =
+    let s = c .before .before .before .before .before .before .before .before in
+    let p = s .args .p in
+    let t = s .args .t in
+    let f : SFits w32 (t .grade) = fits32 (t .grade) (omega (arith, s .pre .grade)) in
+    let g : SFits w32 (s .args .next .grade) = record { sfits = c .before .struct-told3 .given .1 .0 .1 } in
+    c .curve-from .ensures
+    ∙ rw (above (p .height) (t .grade) _ (t .length - t .half) (s .pre .height) (s .pre .grade) (omega (arith, s .pre .length)) (c .before .before .before .before .before .rise .ensures), toZ-ofZ f, toZ-ofZ g)
+
+pub curve-after-spec : {M : Type 1} → statement M
+curve-after-spec =
+    tie.close
+    (tie.spec
+    sub-far
+    rise-requires
+    cast-curve-from
+    add-curve-from
+    add-curve-from-2
+    curve-from-requires
+    returns)

@@ -1,0 +1,87 @@
+use mathlib.Core.Path.{_≡_}
+use Prim.Native.Nat.{_-_}
+use native.Mathlib.Omega.{arith}
+use borrow.Author.Needs.{needs}
+use lib.ListN.{length}
+use Rattle.road.specs.Held.{roadIn}
+use Rattle.places.specs.Places.{ElementReached}
+use Rattle.places.proofs.Cursors.{unmapped, plan-count, element-item, element-end, element-more, element-below, reached-ends}
+use Rattle.places.proofs.element_on.Statement.{statement}
+use Rattle.places.proofs.element_on.Tie as tie
+
+abbrev Inv-loop : tie.InvT-loop
+Inv-loop x a n i₀ begin₀ i begin = ElementReached (roadIn a) (record { index = i; begin = begin }) x
+
+abbrev μ-loop : tie.MeasureT-loop
+μ-loop x a n i₀ begin₀ i begin = n - i
+
+long : (c : tie.Start Inv-loop μ-loop) → length (c .args .t1 .elements) ≡ 200
+long c = search (needs, unmapped)
+
+loop-holds : tie.Need-loop-holds Inv-loop μ-loop
+loop-holds c = search needs
+
+add-loop : tie.Need-add-loop Inv-loop μ-loop
+add-loop c = search needs
+
+mul-e : tie.Need-mul-e Inv-loop μ-loop
+mul-e c = search needs
+
+element-copy-out-e : tie.Need-element-copy-out-e Inv-loop μ-loop
+element-copy-out-e c = search needs
+
+cast-end : tie.Need-cast-end Inv-loop μ-loop
+cast-end c = search needs
+
+add-end : tie.Need-add-end Inv-loop μ-loop
+add-end c =
+    let s = c .before .before .before .before in
+    let b = element-below (s .pre .0 .road) (c .before .before .before .loop .inv) in
+    record { fits = omega (arith, c .struct-known .given) }
+
+add-i : tie.Need-add-i Inv-loop μ-loop
+add-i c = search needs
+
+loop-less : tie.Need-loop-less Inv-loop μ-loop
+loop-less c = search needs
+
+loop-again : tie.Need-loop-again Inv-loop μ-loop
+loop-again c =
+    let s = c .before .before .before .before .before in
+    let l = c .before .before .before .before .loop in
+    let a = s .args .t1 in
+    let m = plan-count a (s .pre .0) (long s) in
+    element-more _ (l .inv) (element-item a (l .i) (omega arith)) (omega arith) (omega arith)
+
+returns : tie.Need-returns Inv-loop μ-loop
+returns c =
+    let s = c .before .before in
+    let l = c .before .loop in
+    let m = plan-count (s .args .t1) (s .pre .0) (long s) in
+    record { begin = l .inv .begin; at = reached-ends (l .inv .at) (λ h. absurd (omega arith)) }
+
+returns-2 : tie.Need-returns-2 Inv-loop μ-loop
+returns-2 c =
+    let s = c .before .before .before .before .before in
+    let l = c .before .before .before .before .loop in
+    let a = s .args .t1 in
+    let e = element-end _ (l .inv) (element-item a (l .i) (omega arith)) in
+    record { begin = l .inv .begin; at = reached-ends (l .inv .at) (λ h. omega arith) }
+
+pub element-on-spec : {M : Type 1} → statement M
+element-on-spec =
+    tie.close
+    (tie.spec
+    Inv-loop
+    μ-loop
+    loop-holds
+    add-loop
+    mul-e
+    element-copy-out-e
+    cast-end
+    add-end
+    add-i
+    loop-less
+    loop-again
+    returns
+    returns-2)

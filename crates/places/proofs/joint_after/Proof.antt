@@ -1,0 +1,85 @@
+use mathlib.Core.Path.{_≡_, sym, ap, ap₂, _∙_}
+use Prim.Native.Nat.{ℕ, suc, _+_, min}
+use native.Mathlib.Omega.{arith}
+use native.Mathlib.Numerals.{add-one}
+use Rattle.road.specs.Exact.{elementStart, pointOf}
+use Rattle.road.specs.Held.{roadIn}
+use Rattle.road.specs.declared.Crossfall.{Crossfall}
+use Rattle.places.specs.Places.{ElementFound, ElementReached}
+use Rattle.places.proofs.Cursors.{element-within, element-item, point-within, point-item, found-end}
+use Rattle.places.proofs.Found.{joint-last, joint-inner}
+use borrow.Author.Needs.{needs}
+use Rattle.places.proofs.joint_after.Statement.{statement}
+use Rattle.places.proofs.joint_after.Tie as tie
+
+mul-e : tie.Need-mul-e
+mul-e c = search needs
+
+element-copy-out-e : tie.Need-element-copy-out-e
+element-copy-out-e c = search needs
+
+cast-stop : tie.Need-cast-stop
+cast-stop c = search needs
+
+add-stop : tie.Need-add-stop
+add-stop c = search needs
+
+add-result : tie.Need-add-result
+add-result c = search needs
+
+returns : tie.Need-returns
+returns c =
+    let s = c .before .before .before .before in
+    let a = s .args .t1 in
+    let p = s .args .p in
+    let f = s .pre .1 .0 in
+    let e = found-end _ f (element-item a (p .index) (element-within a _ (f .at .below))) in
+    joint-last _ (s .args .end) _ (s .args .x) (omega arith)
+
+add-j : tie.Need-add-j
+add-j c = search needs
+
+mul-c : tie.Need-mul-c
+mul-c c = search needs
+
+element-copy-out-c : tie.Need-element-copy-out-c
+element-copy-out-c c = search needs
+
+cast-least : tie.Need-cast-least
+cast-least c = search needs
+
+least-requires : tie.Need-least-requires
+least-requires c κs = search needs
+
+least-requires-2 : tie.Need-least-requires-2
+least-requires-2 c κs = search needs
+
+returns-2 : tie.Need-returns-2
+returns-2 c =
+    let s = c .before .before .before .before .before .before .before .before in
+    let a = s .args .t1 in
+    let p = s .args .p in
+    let k = s .args .k in
+    let f = s .pre .1 .0 in
+    let e = found-end _ f (element-item a (p .index) (element-within a _ (f .at .below))) in
+    let w = point-within a _ (s .pre .1 .1 .0) in
+    let q = ap (λ (d : Crossfall). d .station) (point-item a (k + 1) (omega arith) ∙ ap (pointOf (roadIn a)) (add-one k)) in
+    c .least2 .ensures ∙ ap (min (s .args .end)) (c .before .least .ensures ∙ ap₂ min e q) ∙ joint-inner _ (s .args .end) _ (s .args .x) (omega arith)
+
+pub joint-after-spec : {M : Type 1} → statement M
+joint-after-spec =
+    tie.close
+    (tie.spec
+    mul-e
+    element-copy-out-e
+    cast-stop
+    add-stop
+    add-result
+    returns
+    add-j
+    mul-c
+    element-copy-out-c
+    cast-least
+    least-requires
+    least-requires-2
+    returns-2)

@@ -1,0 +1,25 @@
+use mathlib.Core.Path.{ap₂}
+use lib.IntN.{_*ℤ_}
+use borrow.Author.Needs.{needs}
+use Rattle.places.proofs.Widths.{local, widened, unsigned, small, product-fits}
+use Rattle.places.proofs.rise.Statement.{statement}
+use Rattle.places.proofs.rise.Tie as tie
+
+wide-requires : tie.Need-wide-requires
+wide-requires c κs = search needs
+
+cast-result : tie.Need-cast-result
+cast-result c = search needs
+
+mul-result : tie.Need-mul-result
+mul-result c =
+    let s = c .before in
+    rw (widened (c .wide .ensures) (s .fits .grade), unsigned (s .fits .length .fits)) (product-fits (s .args .grade) (s .args .length) (small _ (s .fits .grade)) (s .fits .length .fits))
+
+returns : tie.Need-returns
+returns c =
+    let s = c .before in
+    local (ap₂ _*ℤ_ (widened (c .wide .ensures) (s .fits .grade)) (unsigned (s .fits .length .fits))) (product-fits (s .args .grade) (s .args .length) (small _ (s .fits .grade)) (s .fits .length .fits))
+
+pub rise-spec : {M : Type 1} → statement M
+rise-spec = tie.close (tie.spec wide-requires cast-result mul-result returns)

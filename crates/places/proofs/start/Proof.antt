@@ -1,0 +1,25 @@
+use mathlib.Core.Path.{ap, _∙_}
+use native.Mathlib.Omega.{arith}
+use lib.IntN.{ℤ, pos, _*ℤ_}
+use mir.Facts.{toZ-ofZ}
+use Rattle.integers.specs.Width.{fits64}
+use Rattle.theorems.specs.Small.{abs-product}
+use Rattle.places.proofs.Widths.{local, fits32}
+use Rattle.places.proofs.Found.{start-reached}
+use borrow.Author.Needs.{needs}
+use Rattle.places.proofs.start.Statement.{statement}
+use Rattle.places.proofs.start.Tie as tie
+
+rise-requires : tie.Need-rise-requires
+rise-requires c κs = search needs
+
+returns : tie.Need-returns
+returns c =
+    let s = c .before .before in
+    let G = s .pre .road in
+    let v = s .args .a .start in
+    start-reached G _ (local (c .rise .ensures ∙ ap (λ (z : ℤ). z *ℤ pos 1000000) (toZ-ofZ (fits32 v (omega (arith, G .start-size)))))
+    (fits64 (v *ℤ pos 1000000) (omega (arith, abs-product v (pos 1000000) {l = 1000000} (G .start-size) (omega arith)))))
+
+pub start-spec : {M : Type 1} → statement M
+start-spec = tie.close (tie.spec rise-requires returns)

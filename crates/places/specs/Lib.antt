@@ -1,0 +1,6 @@
+pub mod Places
+pub mod Pieces
+pub mod Sides
+pub mod Bends
+pub mod Stations
+pub mod View

@@ -1,0 +1,124 @@
+use mathlib.Core.Path.{_≡_, refl, sym, ap, _∙_}
+use Prim.Native.Nat.{ℕ, suc, _+_, _-_, _≤_}
+use native.Mathlib.Omega.{arith}
+use native.Mathlib.Numerals.{add-one}
+use borrow.Author.Needs.{needs}
+use mathlib.Core.Logic.{⊎-elim}
+use lib.ListN.{length}
+use Rattle.road.specs.Base.{sumOf}
+use Rattle.road.specs.Exact.{blankElement, elementOf, elementStart}
+use Rattle.road.specs.Held.{roadIn}
+use Rattle.road.specs.declared.Element.{Element}
+use Rattle.limits.specs.Row.{asLimits}
+use Rattle.rules.specs.Judged.{elementBroken}
+use Rattle.rules.proofs.Search.{Passed, start, found, on, nothing}
+use Rattle.rules.proofs.Lists.{item-in, item-past, next-in, next-past, count-take, unmapped, Sums, sums-start, sums-on}
+use Rattle.rules.proofs.Items.{element-step, element-test}
+use Rattle.rules.proofs.first_element.Statement.{statement}
+use Rattle.rules.proofs.first_element.Tie as tie
+
+abbrev Inv-loop : tie.InvT-loop
+Inv-loop l rule places a n blank e₀ back₀ end₀ i₀ e back end i =
+    (places ≤ 201) × (back ≡ elementOf (roadIn a) (i - 1)) × (e ≡ elementOf (roadIn a) i)
+    × Sums (elementStart (roadIn a)) 201 i end × Passed (elementBroken rule (asLimits l) (roadIn a)) places i
+
+abbrev μ-loop : tie.MeasureT-loop
+μ-loop l rule places a n blank e₀ back₀ end₀ i₀ e back end i = places - i
+
+long : (c : tie.Start Inv-loop μ-loop) → length (c .args .t1 .elements) ≡ 200
+long c = search (needs, unmapped)
+
+element-copy-out-e : tie.Need-element-copy-out-e Inv-loop μ-loop
+element-copy-out-e c = search needs
+
+loop-holds : tie.Need-loop-holds Inv-loop μ-loop
+unfolding elementStart sumOf
+loop-holds c =
+    let s = c .before in
+    let a = s .args .t1 in
+    let first : c .if1 .e ≡ elementOf (roadIn a) 0 = ⊎-elim (λ w. w .2 ∙ item-in (a .elements) (a .«element_count») 0 blankElement (w .0 .taken)) (λ w. w .1 ∙ item-past (a .elements) (a .«element_count») 0 blankElement (w .0 .left)) (c .if1 .came) in
+    (s .pre .1, first, first, sums-start (omega arith) refl, start)
+
+add-if2 : tie.Need-add-if2 Inv-loop μ-loop
+add-if2 c = search needs
+
+add-next : tie.Need-add-next Inv-loop μ-loop
+add-next c = search needs
+
+mul-next : tie.Need-mul-next Inv-loop μ-loop
+mul-next c = search needs
+
+element-copy-out-next : tie.Need-element-copy-out-next Inv-loop μ-loop
+element-copy-out-next c = search needs
+
+cast-end : tie.Need-cast-end Inv-loop μ-loop
+cast-end c = search needs
+
+add-end : tie.Need-add-end Inv-loop μ-loop
+add-end c = search needs
+
+element-fails-requires : tie.Need-element-fails-requires Inv-loop μ-loop
+element-fails-requires c κs = search needs
+
+-- what stands after the element, where it ends, and what its test says
+next-is : (c : tie.After-element-fails Inv-loop μ-loop) → c .before .before .if2 .next ≡ elementOf (roadIn (c .before .before .before .before .before .before .args .t1)) (suc (c .before .before .before .before .loop .i))
+next-is c =
+    let v = c .before .before .before .before .loop in
+    let a = c .before .before .before .before .before .before .args .t1 in
+    ⊎-elim (λ w. w .2 ∙ next-in (a .elements) (a .«element_count») (v .i) blankElement (w .0 .taken)) (λ w. w .1 ∙ next-past (a .elements) (a .«element_count») (v .i) blankElement (w .0 .left)) (c .before .before .if2 .came)
+
+end-is : (c : tie.After-element-fails Inv-loop μ-loop) → Sums (elementStart (roadIn (c .before .before .before .before .before .before .args .t1))) 201 (c .before .before .before .before .loop .i + 1) (c .before .before .before .before .loop .end + c .before .before .before .before .loop .e .length)
+end-is c =
+    let v = c .before .before .before .before .loop in
+    let a = c .before .before .before .before .before .before .args .t1 in
+    let t = c .before .before .before .loop-test .taken in
+    sums-on _ (v .inv .3) (omega arith) (omega arith) (element-step (roadIn a) (v .i) ∙ ap (λ (x : Element). elementStart (roadIn a) (v .i) + x .length) (sym (v .inv .2)))
+
+test : (c : tie.After-element-fails Inv-loop μ-loop) → c .element-fails .result ≡ elementBroken (c .before .before .before .before .before .before .args .rule) (asLimits (c .before .before .before .before .before .before .args .l)) (roadIn (c .before .before .before .before .before .before .args .t1)) (c .before .before .before .before .loop .i)
+test c =
+    let v = c .before .before .before .before .loop in
+    let s = c .before .before .before .before .before .before in
+    let a = s .args .t1 in
+    let m = count-take (a .elements) (a .«element_count») (long s) (s .pre .0 .plan) in
+    c .element-fails .ensures ∙ element-test (s .args .rule) (s .args .l) (roadIn a) (v .i) (sym m) (end-is c .is ∙ ap (elementStart (roadIn a)) (add-one (v .i))) (v .inv .1) (v .inv .2) (next-is c)
+
+returns : tie.Need-returns Inv-loop μ-loop
+returns c = found (c .before .before .before .before .before .loop .inv .4) (c .before .before .before .before .loop-test .taken) (sym (test (c .before)) ∙ c .if3 .taken)
+
+add-i : tie.Need-add-i Inv-loop μ-loop
+add-i c = search needs
+
+loop-less : tie.Need-loop-less Inv-loop μ-loop
+loop-less c = search needs
+
+loop-again : tie.Need-loop-again Inv-loop μ-loop
+loop-again c =
+    let v = c .before .before .before .before .before .loop in
+    let a = c .before .before .before .before .before .before .before .args .t1 in
+    let t = c .before .before .before .before .loop-test .taken in
+    let k : v .i ≡ v .i + 1 - 1 = omega arith in
+    (v .inv .0, v .inv .2 ∙ ap (λ (x : ℕ). elementOf (roadIn a) x) k, next-is (c .before) ∙ ap (λ (x : ℕ). elementOf (roadIn a) x) (sym (add-one (v .i))), end-is (c .before), on (v .inv .4) t (sym (test (c .before)) ∙ c .if3 .left))
+
+returns-2 : tie.Need-returns-2 Inv-loop μ-loop
+returns-2 c = nothing (c .before .loop .inv .4) (c .loop-test .left)
+
+pub first-element-spec : {M : Type 1} → statement M
+first-element-spec =
+    tie.close
+    (tie.spec
+    Inv-loop
+    μ-loop
+    element-copy-out-e
+    loop-holds
+    add-if2
+    add-next
+    mul-next
+    element-copy-out-next
+    cast-end
+    add-end
+    element-fails-requires
+    returns
+    add-i
+    loop-less
+    loop-again
+    returns-2)

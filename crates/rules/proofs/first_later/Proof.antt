@@ -1,0 +1,71 @@
+use mathlib.Core.Path.{_≡_, sym, ap, _∙_}
+use lib.ListN.{length}
+use Rattle.road.specs.Base.{firstThat}
+use Rattle.road.specs.Held.{roadIn}
+use Rattle.limits.specs.Row.{asLimits}
+use Rattle.rules.specs.Judged.{tangentBroken, pointBroken}
+use Rattle.rules.proofs.Lists.{count-take, unmapped}
+use Rattle.rules.proofs.Dispatch.{later-tangent, later-vertex, later-point, later-pair}
+use borrow.Author.Needs.{needs}
+use Rattle.rules.proofs.first_later.Statement.{statement}
+use Rattle.rules.proofs.first_later.Tie as tie
+
+-- the lists are as long as their counts
+tangents : (c : tie.Start) → length (roadIn (c .args .a) .tangents) ≡ c .args .a .«tangent_count»
+tangents c = count-take (c .args .a .tangents) (c .args .a .«tangent_count») {m = 100} (search (needs, unmapped)) (c .pre .profile)
+
+points : (c : tie.Start) → length (roadIn (c .args .a) .crossfalls) ≡ c .args .a .«crossfall_count»
+points c = count-take (c .args .a .crossfalls) (c .args .a .«crossfall_count») {m = 200} (search (needs, unmapped)) (c .pre .points)
+
+first-tangent-requires : tie.Need-first-tangent-requires
+first-tangent-requires c κs = search needs
+
+one-less-requires : tie.Need-one-less-requires
+one-less-requires c κs = search needs
+
+first-tangent-requires-2 : tie.Need-first-tangent-requires-2
+first-tangent-requires-2 c κs = search needs
+
+plan-length-requires : tie.Need-plan-length-requires
+plan-length-requires c κs = search needs
+
+first-point-requires : tie.Need-first-point-requires
+first-point-requires c κs = search needs
+
+one-less-requires-2 : tie.Need-one-less-requires-2
+one-less-requires-2 c κs = search needs
+
+plan-length-requires-2 : tie.Need-plan-length-requires-2
+plan-length-requires-2 c κs = search needs
+
+first-point-requires-2 : tie.Need-first-point-requires-2
+first-point-requires-2 c κs = search needs
+
+returns : tie.Need-returns
+returns c = let s = c .before .before in c .first-tangent .ensures ∙ later-tangent (s .args .rule) (asLimits (s .args .l)) (roadIn (s .args .a)) _ (c .before .if1 .taken) (sym (tangents s))
+
+returns-2 : tie.Need-returns-2
+returns-2 c = let s = c .before .before .before .before in c .first-tangent2 .ensures ∙ ap (firstThat (tangentBroken (s .args .rule) (asLimits (s .args .l)) (roadIn (s .args .a)))) (c .before .one-less .ensures) ∙ later-vertex (s .args .rule) (asLimits (s .args .l)) (roadIn (s .args .a)) _ (c .before .before .before .if1 .left) (c .before .before .if2 .taken) (sym (tangents s))
+
+returns-3 : tie.Need-returns-3
+returns-3 c = let s = c .before .before .before .before .before in c .first-point .ensures ∙ later-point (s .args .rule) (asLimits (s .args .l)) (roadIn (s .args .a)) _ (c .before .before .before .if2 .left) (c .before .before .if3 .taken) (sym (points s))
+
+returns-4 : tie.Need-returns-4
+returns-4 c = let s = c .before .before .before .before .before .before in c .first-point2 .ensures ∙ ap (firstThat (pointBroken (s .args .rule) (asLimits (s .args .l)) (roadIn (s .args .a)))) (c .before .before .one-less2 .ensures) ∙ later-pair (s .args .rule) (asLimits (s .args .l)) (roadIn (s .args .a)) _ (c .before .before .before .if3 .left) (sym (points s))
+
+pub first-later-spec : {M : Type 1} → statement M
+first-later-spec =
+    tie.close
+    (tie.spec
+    first-tangent-requires
+    one-less-requires
+    first-tangent-requires-2
+    plan-length-requires
+    first-point-requires
+    one-less-requires-2
+    plan-length-requires-2
+    first-point-requires-2
+    returns
+    returns-2
+    returns-3
+    returns-4)

@@ -1,0 +1,112 @@
+use mathlib.Core.Path.{_≡_, refl, sym, ap, _∙_}
+use mathlib.Core.Logic.{⊎-elim}
+use Prim.Native.Nat.{ℕ, suc, _+_, _-_, _<_, _≤_}
+use native.Mathlib.Omega.{arith}
+use native.Mathlib.Numerals.{add-one}
+use borrow.Author.Needs.{needs}
+use borrow.Author.Tests.{eq-eqb, ne-eqb}
+use lib.ListN.{length, getD}
+use Rattle.road.specs.Exact.{blankElement, elementOf}
+use Rattle.road.specs.Rules.{firstArc, arcBefore, shortStraight}
+use Rattle.road.specs.Held.{roadIn}
+use Rattle.road.specs.declared.Element.{Element}
+use Rattle.limits.specs.Row.{asLimits}
+use Rattle.rules.proofs.Search.{Passed, start, found, on, nothing}
+use Rattle.rules.proofs.Lists.{item-in, item-past, count-take, unmapped}
+use Rattle.rules.proofs.Straights.{turned, not-turned, straight-test}
+use Rattle.rules.proofs.first_straight.Statement.{statement}
+use Rattle.rules.proofs.first_straight.Tie as tie
+
+abbrev Inv-loop : tie.InvT-loop
+Inv-loop l a n blank before₀ i₀ before i =
+    (n ≤ 200) × (before .radius ≡ arcBefore (roadIn a) i) × Passed (shortStraight (asLimits l) (roadIn a)) (length (roadIn a .plan)) i
+
+abbrev μ-loop : tie.MeasureT-loop
+μ-loop l a n blank before₀ i₀ before i = n - i
+
+long : (c : tie.Start Inv-loop μ-loop) → length (c .args .t1 .elements) ≡ 200
+long c = search (needs, unmapped)
+
+count : (c : tie.Start Inv-loop μ-loop) → length (roadIn (c .args .t1) .plan) ≡ c .args .t1 .«element_count»
+count c = count-take (c .args .t1 .elements) (c .args .t1 .«element_count») (long c) (c .pre .0 .plan)
+
+loop-holds : tie.Need-loop-holds Inv-loop μ-loop
+unfolding firstArc
+loop-holds c = (c .pre .0 .plan, refl, start)
+
+mul-e : tie.Need-mul-e Inv-loop μ-loop
+mul-e c = search needs
+
+element-copy-out-e : tie.Need-element-copy-out-e Inv-loop μ-loop
+element-copy-out-e c = search needs
+
+add-if1 : tie.Need-add-if1 Inv-loop μ-loop
+add-if1 c = search needs
+
+add-after : tie.Need-add-after Inv-loop μ-loop
+add-after c = search needs
+
+mul-after : tie.Need-mul-after Inv-loop μ-loop
+mul-after c = search needs
+
+element-copy-out-after : tie.Need-element-copy-out-after Inv-loop μ-loop
+element-copy-out-after c = search needs
+
+is-short-straight-requires : tie.Need-is-short-straight-requires Inv-loop μ-loop
+is-short-straight-requires c κs = search needs
+
+within : (c : tie.After-is-short-straight Inv-loop μ-loop) → c .before .before .before .before .loop .i < length (roadIn (c .before .before .before .before .before .args .t1) .plan)
+within c = let m = count (c .before .before .before .before .before) in let t = c .before .before .before .loop-test .taken in omega arith
+
+here : (c : tie.After-is-short-straight Inv-loop μ-loop) → getD (c .before .before .before .before .before .args .t1 .elements) (c .before .before .before .before .loop .i) blankElement ≡ elementOf (roadIn (c .before .before .before .before .before .args .t1)) (c .before .before .before .before .loop .i)
+here c = let a = c .before .before .before .before .before .args .t1 in item-in (a .elements) (a .«element_count») (c .before .before .before .before .loop .i) blankElement (c .before .before .before .loop-test .taken)
+
+test : (c : tie.After-is-short-straight Inv-loop μ-loop) → c .is-short-straight .result ≡ shortStraight (asLimits (c .before .before .before .before .before .args .l)) (roadIn (c .before .before .before .before .before .args .t1)) (c .before .before .before .before .loop .i)
+test c =
+    let v = c .before .before .before .before .loop in
+    let s = c .before .before .before .before .before in
+    let a = s .args .t1 in
+    let two : v .i + 2 ≡ suc (suc (v .i)) = omega arith in
+    let after = ⊎-elim (λ w. w .2 ∙ item-in (a .elements) (a .«element_count») (v .i + 2) blankElement (w .0 .taken)) (λ w. w .1 ∙ item-past (a .elements) (a .«element_count») (v .i + 2) blankElement (w .0 .left)) (c .before .if1 .came) in
+    c .is-short-straight .ensures ∙ straight-test (asLimits (s .args .l)) (roadIn a) (s .pre .1) (v .i) (v .before) (within c) (v .inv .1) (here c) (after ∙ ap (λ (k : ℕ). elementOf (roadIn a) k) two)
+
+returns : tie.Need-returns Inv-loop μ-loop
+returns c = found (c .before .before .before .before .before .loop .inv .2) (within (c .before)) (sym (test (c .before)) ∙ c .if2 .taken)
+
+add-i : tie.Need-add-i Inv-loop μ-loop
+add-i c = search needs
+
+loop-less : tie.Need-loop-less Inv-loop μ-loop
+loop-less c = search needs
+
+loop-again : tie.Need-loop-again Inv-loop μ-loop
+loop-again c =
+    let d = c .before .before .before in
+    let v = c .before .before .before .before .before .before .before .loop in
+    let a = c .before .before .before .before .before .before .before .before .args .t1 in
+    let r = roadIn a in
+    let turn = ⊎-elim (λ w. ap (λ (x : Element). x .radius) (w .1) ∙ turned r (v .i) (within d) (here d) (eq-eqb _ 1 (w .0 .taken))) (λ w. ap (λ (x : Element). x .radius) (w .1) ∙ v .inv .1 ∙ not-turned r (v .i) (within d) (here d) (ne-eqb _ 1 (w .0 .left))) (c .if3 .came) in
+    (v .inv .0, turn ∙ ap (λ (k : ℕ). arcBefore (roadIn a) k) (sym (add-one (v .i))), on (v .inv .2) (within d) (sym (test d) ∙ c .before .before .if2 .left))
+
+returns-2 : tie.Need-returns-2 Inv-loop μ-loop
+returns-2 c = let m = count (c .before .before) in let h = c .loop-test .left in nothing (c .before .loop .inv .2) (omega arith)
+
+pub first-straight-spec : {M : Type 1} → statement M
+first-straight-spec =
+    tie.close
+    (tie.spec
+    Inv-loop
+    μ-loop
+    loop-holds
+    mul-e
+    element-copy-out-e
+    add-if1
+    add-after
+    mul-after
+    element-copy-out-after
+    is-short-straight-requires
+    returns
+    add-i
+    loop-less
+    loop-again
+    returns-2)

@@ -1,0 +1,59 @@
+use mathlib.Core.Path.{_≡_, sym, ap, _∙_}
+use Prim.Native.Nat.{ℕ, _+_, _≤_}
+use native.Mathlib.Omega.{arith}
+use mathlib.Core.List.{List}
+use borrow.Author.Needs.{needs}
+use lib.ListN.{length}
+use denote.Ref.{now}
+use Rattle.road.specs.Limits.{limits}
+use Rattle.road.specs.Limits as road
+use Rattle.road.specs.Machine.{overwrite}
+use Rattle.stretch.specs.Stretch.{Shows}
+use Rattle.stretch.specs.Line.{line-shows}
+use Rattle.places.specs.View.{Viewed}
+use Rattle.road.specs.Held.{roadIn}
+use Rattle.stationing.specs.Routines.{overwritten}
+use Rattle.stationing.proofs.put_row.Statement.{statement}
+use Rattle.stationing.proofs.put_row.Tie as tie
+
+limits-of-requires : tie.Need-limits-of-requires
+limits-of-requires c κs = search needs
+
+start-requires : tie.Need-start-requires
+start-requires c κs = search needs
+
+view-at-requires : tie.Need-view-at-requires
+unfolding limits
+view-at-requires c κs =
+    let p = c .before .before .before .pre in
+    (p .0, (c .start .ensures (c .before .before .before .args .station), (p .1 .0, ap (λ (l : road.Limits). l .lane) (c .before .limits-of .ensures))))
+
+-- the stretch of the view says what the exact road says at the station
+shown : (c : tie.After-view-at) → Shows (roadIn (c .before .before .before .before .args .a)) (c .view-at .result .stretch) (c .before .before .before .before .args .station)
+shown c =
+    let s = c .before .before .before .before in
+    c .view-at .ensures .shows (s .args .station) (omega arith) (c .view-at .ensures .beyond) (s .pre .1 .0)
+
+put-line-requires : tie.Need-put-line-requires
+put-line-requires c κs = (shown (c .before .before) .sound, c .before .before .before .before .before .before .pre .1 .1)
+
+same-length : tie.Need-same-length
+same-length c = search needs
+
+returns : tie.Need-returns
+returns c =
+    let s = c .before .before .before .before .before .before .before .before .before in
+    let e = line-shows (shown (c .before .before .before .before .before)) in
+    let w = overwritten (c .before .before .put-line .ensures .0) in
+    (w .0 ∙ ap length e, w .1 ∙ ap (λ (l : List ℕ). overwrite l (now (s .args .line))) e)
+
+pub put-row-spec : {M : Type 1} → statement M
+put-row-spec =
+    tie.close
+    (tie.spec
+    limits-of-requires
+    start-requires
+    view-at-requires
+    put-line-requires
+    same-length
+    returns)

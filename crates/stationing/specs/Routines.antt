@@ -1,0 +1,64 @@
+-- What the two routines rest on: an accepted file's alignment, and the answers by the outcome of each test.
+use mathlib.Core.Path.{_≡_, refl, sym, ap, _∙_}
+use mathlib.Core.List.{List, _++_}
+use Prim.Native.Nat.{ℕ, _+_, _≤_, _<_}
+use native.Mathlib.Omega.{arith}
+use borrow.Author.Tests.{lt-ltb, le-ltb}
+use lib.ListN.{length, take, drop}
+use Rattle.number.specs.Reading.{Got, got, refused}
+use Rattle.decimal.specs.Written.{Wrote, written}
+use Rattle.road.specs.File.{Road}
+use Rattle.road.specs.Exact.{total}
+use Rattle.road.specs.Held.{roadIn, Counted}
+use Rattle.road.specs.Line.{line}
+use Rattle.road.specs.Rules.{accepted}
+use Rattle.road.specs.Machine.{Answer, refusal, wrote, rowOn, bufferOn, overwrite, rowAnswer, rowBuffer, nextOn, nextAnswer}
+use Rattle.road.specs.declared.Alignment.{Alignment}
+use Rattle.theorems.specs.Guaranteed.{guaranteed}
+use Rattle.places.specs.Places.{Ready}
+
+-- all that the layers below ask of an alignment follows from its acceptance
+pub ready : (s : List ℕ) (a : Alignment) (end : ℕ) → got (roadIn a) end ≡ accepted s → Counted a → Ready a
+ready s a end e c = record { counted = c; road = guaranteed s (roadIn a) end (sym e) }
+
+-- a line written from the buffer's start on
+pub overwritten : {b a x : List ℕ} {r : ℕ} → Wrote b a 0 x r → (r ≡ length x) × (a ≡ overwrite x b)
+unfolding written overwrite
+overwritten {b} {a} {x} {r} w =
+    let e : 0 + length x ≡ length x = omega arith in
+    (w .end ∙ e, w .bytes ∙ ap (λ (n : ℕ). x ++ drop n b) e)
+
+-- what a row call answers, and what it leaves in the buffer
+pub record RowGives (r : Road) (s : ℕ) (b : List ℕ) (answer : Answer) (left : List ℕ) : Type 0 where
+  pub answered : answer ≡ rowOn s (length b) (got r 0)
+  pub buffer : left ≡ bufferOn s b (got r 0)
+
+module _ (r : Road) (s : ℕ) (b : List ℕ) where
+  -- 20
+  pub row-short : length b < 96 → RowGives r s b (refusal 20 0) b
+  row-short h = record { answered = rw (lt-ltb (length b) 96 h); buffer = rw (lt-ltb (length b) 96 h) }
+
+  -- 21
+  pub row-beyond : 96 ≤ length b → total r < s → RowGives r s b (refusal 21 0) b
+  row-beyond h l = record { answered = rw (le-ltb (length b) 96 h, lt-ltb (total r) s l); buffer = rw (le-ltb (length b) 96 h, lt-ltb (total r) s l) }
+
+  pub row-written : 96 ≤ length b → s ≤ total r → RowGives r s b (wrote (length (line r s))) (overwrite (line r s) b)
+  row-written h l = record { answered = rw (le-ltb (length b) 96 h, le-ltb (total r) s l); buffer = rw (le-ltb (length b) 96 h, le-ltb (total r) s l) }
+
+-- the answers of an accepted file do not look at where it ended; a refused one keeps its refusal
+module _ (f : List ℕ) (s : ℕ) where
+  pub row-accepted : (b : List ℕ) (r : Road) (end : ℕ) → got r end ≡ accepted f → (rowOn s (length b) (got r 0) ≡ rowAnswer f s (length b)) × (bufferOn s b (got r 0) ≡ rowBuffer f s b)
+  unfolding rowAnswer rowBuffer
+  row-accepted b r end e = (ap (rowOn s (length b)) e, ap (bufferOn s b) e)
+
+  pub row-refused : (b : List ℕ) (n p : ℕ) → refused n p ≡ accepted f → (refusal n p ≡ rowAnswer f s (length b)) × (b ≡ rowBuffer f s b)
+  unfolding rowAnswer rowBuffer
+  row-refused b n p e = (ap (rowOn s (length b)) e, ap (bufferOn s b) e)
+
+  pub next-accepted : (r : Road) (end : ℕ) → got r end ≡ accepted f → nextOn s (got r 0) ≡ nextAnswer f s
+  unfolding nextAnswer
+  next-accepted r end e = ap (nextOn s) e
+
+  pub next-refused : (n p : ℕ) → refused n p ≡ accepted f → refusal n p ≡ nextAnswer f s
+  unfolding nextAnswer
+  next-refused n p e = ap (nextOn s) e
