@@ -1,28 +1,27 @@
 -- The items of an alignment's arrays, and how a cursor moves on.
 use mathlib.Core.Path.{_≡_, refl, sym, ap, ap₂, _∙_, subst}
 use mathlib.Core.List.{List, map}
-use Prim.Native.Nat.{ℕ, zero, suc, _+_, _*_, _-_, _<_, _≤_}
+use Prim.Native.Nat.{ℕ, zero, suc, _+_, _*_, _<_, _≤_}
 use native.Mathlib.Omega.{arith}
 use native.Mathlib.Numerals.{add-one}
 use lib.ListN.{length, take, getD, length-take, length-map}
 use lib.Seq.{getD-take}
 use lib.IntN.{ℤ, pos, natAbs, _+ℤ_, _*ℤ_, +ℤ-assoc}
+use Rattle.integers.specs.Bridge.{abs-product, abs-sum}
 use Rattle.road.specs.Base.{sumOf}
 use Rattle.road.specs.File.{Road}
-use Rattle.road.specs.Exact.{blankElement, blankTangent, blankCrossfall, elementOf, tangentOf, pointOf, elementStart, tangentStart, halfLength, rise}
+use Rattle.road.specs.Exact.{blankElement, blankTangent, blankCrossfall, elementOf, tangentOf, pointOf, elementStart, tangentStart, rise}
 use Rattle.road.specs.Rules.{halfBefore}
-use Rattle.road.specs.Held.{Counted, roadIn}
+use Rattle.road.specs.Held.{roadIn}
 use Rattle.road.specs.declared.Alignment.{Alignment}
 use Rattle.road.specs.declared.Element.{Element}
 use Rattle.road.specs.declared.Tangent.{Tangent}
-use Rattle.road.specs.declared.Crossfall.{Crossfall}
 use Rattle.theorems.specs.Last.{Begun}
 use Rattle.theorems.specs.Facts.{start-next, element-next, rise-next}
-use Rattle.theorems.specs.Small.{abs-product, abs-sum}
 use Rattle.theorems.specs.Guaranteed.{Guaranteed}
 use Rattle.places.specs.declared.ElementPlace.{ElementPlace}
 use Rattle.places.specs.declared.TangentPlace.{TangentPlace}
-use Rattle.places.specs.Places.{Ready, Reached, heightStart, gradeBefore, ElementReached, ElementFound, TangentPlaced, TangentReached, TangentFound, nextPlace, Sized, pointStation}
+use Rattle.places.specs.Places.{Ready, Reached, heightStart, gradeBefore, ElementReached, ElementFound, TangentPlaced, TangentReached, nextPlace, Sized}
 
 -- the length of a struct's array, which is known of its machine words
 pub unmapped : (X Y : Type 0) (f : X → Y) (l : List X) (n : ℕ) → length (map f l) ≡ n → length l ≡ n

@@ -1,28 +1,26 @@
 -- The numbers that the code makes of a place are those of the road there.
-use mathlib.Core.Path.{_≡_, refl, sym, ap, ap₂, _∙_, subst}
+use mathlib.Core.Path.{_≡_, refl, sym, ap, ap₂, _∙_}
 use mathlib.Core.List.{[], _∷_}
 use mathlib.Core.Logic.{_⊎_, inl, inr}
-use Prim.Native.Nat.{ℕ, zero, suc, _+_, _*_, _-_, _≤_, _<_, min}
+use Prim.Native.Nat.{ℕ, zero, suc, _+_, _-_, _≤_, _<_, min}
 use native.Mathlib.Omega.{arith}
 use native.Mathlib.Decide.{decLt}
 use borrow.Author.Tests.{le-leb, lt-leb, ltb-true, ltb-false, eqb-true, eqb-false}
 use mathlib.Core.Bool.{Bool, true, false, _||_}
 use lib.Dec.{ltb, eqb}
-use lib.ListN.{length, take}
+use lib.ListN.{length}
 use lib.IntN.{ℤ, pos, _+ℤ_, _-ℤ_, _*ℤ_, +ℤ-idr}
 use Rattle.integers.specs.Ring.{_:+_, _:-_, _:*_, ring, v0, v1, v2, v3}
-use Rattle.road.specs.Base.{sumOf}
 use Rattle.road.specs.File.{Road}
-use Rattle.road.specs.Exact.{tangentOf, pointOf, elementStart, tangentStart, vertexCount, halfLength, rise}
+use Rattle.road.specs.Exact.{tangentOf, tangentStart, halfLength, rise}
 use Rattle.road.specs.Rules.{halfBefore}
 use Rattle.road.specs.declared.Tangent.{Tangent}
-use Rattle.theorems.specs.Last.{Begun, true-false}
-use Rattle.theorems.specs.Facts.{start-first, start-next}
+use Rattle.theorems.specs.Tests.{or-left, or-right}
+use Rattle.theorems.specs.Facts.{start-first}
 use Rattle.theorems.specs.Guaranteed.{Guaranteed}
 use Rattle.places.specs.declared.TangentPlace.{TangentPlace}
-use Rattle.places.specs.declared.Piece.{Piece}
-use Rattle.places.specs.Places.{heightStart, gradeBefore, TangentPlaced, TangentFound, PlaceReached}
-use Rattle.places.specs.Pieces.{curveFrom, curveBefore, curveAfter, straightPart, straightEnd, straightOf, curveOf, Straight, Curve, PieceAt, straight, curve}
+use Rattle.places.specs.Places.{heightStart, gradeBefore, TangentFound, PlaceReached}
+use Rattle.places.specs.Pieces.{curveFrom, curveBefore, curveAfter, straightPart, straightEnd, straightOf, PieceAt, straight, curve}
 use Rattle.places.specs.View.{jointOf}
 use Rattle.places.proofs.Cursors.{element-first, height-next}
 use Rattle.places.proofs.Profiles.{straight-end}
@@ -56,11 +54,7 @@ pub record PastPart (x f h : ℕ) : Type 0 where
   pub long : h ≡ 0 → ⊥
 
 pub past-part : (x f h : ℕ) → (ltb x f || eqb h 0) ≡ false → PastPart x f h
-past-part x f h e = go (ltb x f) refl e
-  where
-    go : (a : Bool) → ltb x f ≡ a → (a || eqb h 0) ≡ false → PastPart x f h
-    go true p e = absurd (true-false true refl e)
-    go false p e = record { past = ltb-false x f p; long = eqb-false h 0 e }
+past-part x f h e = record { past = ltb-false x f (or-left (ltb x f) (eqb h 0) e); long = eqb-false h 0 (or-right (ltb x f) (eqb h 0) e) }
 
 -- ---- the joint
 pub joint-last : (element piece point x : ℕ) → element ≤ x → x + 1 ≡ jointOf element piece point x

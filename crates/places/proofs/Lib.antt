@@ -1,6 +1,5 @@
 pub mod Widths
 pub mod Cursors
-pub mod Grades
 pub mod Profiles
 pub mod PieceFacts
 pub mod Curvatures

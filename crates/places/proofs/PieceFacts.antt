@@ -1,29 +1,27 @@
 -- A piece of the profile: its numbers are small, it ends at a listed station, and no curve begins or ends inside it.
-use mathlib.Core.Path.{_≡_, refl, sym, ap, _∙_, subst}
-use mathlib.Core.Logic.{inl, inr}
+use mathlib.Core.Path.{_≡_, sym, ap, subst}
+use mathlib.Core.Logic.{_⊎_, inl, inr}
 use mathlib.Core.List.{List·Memᴰ}
-use Prim.Native.Nat.{ℕ, zero, suc, _+_, _*_, _-_, _≤_, _<_}
+use Prim.Native.Nat.{ℕ, suc, _+_, _*_, _-_, _≤_, _<_}
 use native.Mathlib.Omega.{arith}
 use native.Mathlib.Decide.{decLt}
 use lib.ListN.{length}
-use lib.IntN.{ℤ, pos, natAbs, _+ℤ_, _-ℤ_, _*ℤ_}
+use lib.IntN.{pos, natAbs, _+ℤ_, _-ℤ_, _*ℤ_}
 use lib.Signed.{_≤ℤ_}
-use Rattle.integers.specs.Bridge.{nat, _⊖_, le! }
+use Rattle.integers.specs.Bridge.{nat, _⊖_, le!, abs-product, abs-sum, abs-difference}
 use Rattle.road.specs.File.{Road}
-use Rattle.road.specs.Exact.{tangentOf, tangentStart, total, vertexCount, vertex, halfLength, gradeChange, from_to_}
+use Rattle.road.specs.Exact.{tangentOf, tangentStart, total, vertexCount, vertex, halfLength, from_to_}
 use Rattle.road.specs.Rules.{halfBefore}
 use Rattle.road.specs.Listed.{stations}
-use Rattle.theorems.specs.Last.{rises-to, begun-before}
+use Rattle.theorems.specs.Last.{Rising, rises-to, begun-before}
 use Rattle.theorems.specs.Facts.{start-next, curve-begins}
-use Rattle.theorems.specs.Small.{abs-product, abs-sum, abs-less, abs-from}
-use Rattle.theorems.specs.Stations.{starts-listed, ends-listed}
+use Rattle.theorems.specs.Small.{abs-from}
+use Rattle.theorems.specs.Stations.{end-station, stations-has, starts-listed, ends-listed}
 use Rattle.theorems.specs.Guaranteed.{Guaranteed}
 use Rattle.places.specs.declared.Piece.{Piece}
 use Rattle.places.specs.Places.{heightStart}
-use Rattle.places.specs.Stations.{EndOf, total-listed}
 use Rattle.places.specs.Pieces.{straightEnd, straightOf, curveOf, Straight, Curve, PieceAt, straight, curve}
 use Rattle.places.proofs.Cursors.{height-small}
-use Rattle.places.proofs.Grades.{begins, begins-rise}
 use Rattle.places.proofs.Profiles.{straight-end}
 
 -- the numbers of a piece at a station fit 64 bits
@@ -36,6 +34,14 @@ pub record Small (p : Piece) (y : ℕ) : Type 0 where
   pub from-size : natAbs (p .from) ≤ 100000000
   pub height-size : natAbs (p .height) ≤ 27240000000000
   pub in-curve : 0 < natAbs (p .half) → (pos 0 ≤ℤ (pos y -ℤ p .from)) × (natAbs (pos y -ℤ p .from) ≤ 2 * natAbs (p .half))
+
+-- x is an end of the curve of vertex j; where h is 0, it is the vertex
+abbrev pub EndOf : Road → (j x : ℕ) → Type 0
+EndOf r j x = (x + halfLength r j ≡ vertex r j) ⊎ (x ≡ vertex r j + halfLength r j)
+
+-- where the straight part of a tangent begins
+abbrev begins : Road → ℕ → ℕ
+begins r i = tangentStart r i + halfBefore r i
 
 module _ {r : Road} (G : Guaranteed r) where
   start-size : (i : ℕ) → i < length (r .tangents) → natAbs (heightStart r i) ≤ 15000000000000
@@ -78,7 +84,7 @@ module _ {r : Road} (G : Guaranteed r) where
       record {
         height = omega (arith, abs-sum (heightStart r i +ℤ tangentOf r i .grade *ℤ pos k) (tangentOf r i .grade *ℤ (from straightEnd r i to y)) c d);
         grade = g;
-        change = abs-less (tangentOf r (suc i) .grade) (tangentOf r i .grade) (G .grade (suc i) (omega arith)) g;
+        change = abs-difference (tangentOf r (suc i) .grade) (tangentOf r i .grade) (G .grade (suc i) (omega arith)) g;
         half-low = le! (nat 0) (nat (halfLength r i)) (omega arith);
         half-high = half;
         from-size = omega arith;
@@ -114,7 +120,7 @@ module _ {r : Road} (G : Guaranteed r) where
           let e : suc i ≡ length (r .tangents) = omega arith in
           let f : i ≡ length (r .tangents) - 1 = omega arith in
           let q : straightEnd r i ≡ total r = omega (arith, straight-end G i h, G .last-half, ap (halfLength r) f, ap (tangentStart r) e, G .facts-of .whole) in
-          total-listed r (straightEnd r i) q
+          stations-has r (let s = G .step .low in omega arith) (end-station q)
 
   pub piece-listed : {p : Piece} {x : ℕ} → PieceAt r p x → List·Memᴰ (p .end) (stations r)
   piece-listed {p} (straight i w s) = subst (λ (p : Piece). List·Memᴰ (p .end) (stations r)) (sym w) (straight-listed i (s .begun .below))
@@ -123,14 +129,18 @@ module _ {r : Road} (G : Guaranteed r) where
       subst (λ (p : Piece). List·Memᴰ (p .end) (stations r)) (sym w) (ends-listed r i (straightEnd r i + 2 * halfLength r i) h (omega (arith, straight-end G i (omega arith))))
 
   -- ---- no curve begins or ends between a station and the end of its piece
+  begins-rise : Rising (begins r) (length (r .tangents))
+  unfolding Rising
+  begins-rise i h = omega (arith, G .facts-of .room i h, start-next r i h)
+
   -- a curve before tangent i, and one after it
   curve-ahead : (j i z : ℕ) → j < i → i < length (r .tangents) → EndOf r j z → z ≤ begins r i
-  curve-ahead j i z l h (inl e) = omega (arith, rises-to (begins r) (length (r .tangents)) (suc j) i (begins-rise G) l (omega arith))
-  curve-ahead j i z l h (inr e) = omega (arith, rises-to (begins r) (length (r .tangents)) (suc j) i (begins-rise G) l (omega arith))
+  curve-ahead j i z l h (inl e) = omega (arith, rises-to (begins r) (length (r .tangents)) (suc j) i begins-rise l (omega arith))
+  curve-ahead j i z l h (inr e) = omega (arith, rises-to (begins r) (length (r .tangents)) (suc j) i begins-rise l (omega arith))
 
   curve-behind : (j i z : ℕ) → i < j → j < vertexCount r → EndOf r j z → begins r (suc i) ≤ z
-  curve-behind j i z l h (inl e) = omega (arith, curve-begins (G .facts-of) j h, rises-to (begins r) (length (r .tangents)) (suc i) j (begins-rise G) l (omega arith))
-  curve-behind j i z l h (inr e) = omega (arith, curve-begins (G .facts-of) j h, rises-to (begins r) (length (r .tangents)) (suc i) j (begins-rise G) l (omega arith))
+  curve-behind j i z l h (inl e) = omega (arith, curve-begins (G .facts-of) j h, rises-to (begins r) (length (r .tangents)) (suc i) j begins-rise l (omega arith))
+  curve-behind j i z l h (inr e) = omega (arith, curve-begins (G .facts-of) j h, rises-to (begins r) (length (r .tangents)) (suc i) j begins-rise l (omega arith))
 
   own-straight : (i z : ℕ) → i < length (r .tangents) → EndOf r i z → straightEnd r i ≤ z
   own-straight i z h (inl e) = omega (arith, straight-end G i h)

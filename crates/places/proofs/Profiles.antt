@@ -1,29 +1,24 @@
 -- Height and grade on a piece of the profile, as the numbers of a stretch say them.
-use mathlib.Core.Path.{_≡_, refl, sym, ap, ap₂, _∙_, subst}
-use mathlib.Core.Bool.{Bool, true, false}
+use mathlib.Core.Path.{_≡_, sym, ap, subst}
 use mathlib.Core.List.{[], _∷_}
-use mathlib.Core.Option.{some}
-use Prim.Native.Nat.{ℕ, zero, suc, _+_, _*_, _-_, _≤_, _<_}
+use Prim.Native.Nat.{ℕ, suc, _+_, _*_, _-_, _≤_, _<_}
 use native.Mathlib.Omega.{arith}
 use native.Mathlib.Decide.{decLt}
 use borrow.Author.Tests.{ne-eqb}
 use lib.ListN.{length}
-use lib.Dec.{eqb}
-use lib.IntN.{ℤ, pos, natAbs, _+ℤ_, _-ℤ_, _*ℤ_}
-use lib.Signed.{_≤ℤ_}
-use Rattle.integers.specs.Bridge.{nat, int, _⊕_, _⊖_, _⊗_, eq!, le! }
-use Rattle.integers.specs.Ring.{_:+_, _:-_, _:*_, #, ring, v0, v1, v2, v3, v4, v5}
-use Rattle.integers.specs.Fraction.{Frac, _÷_, whole, _≈ᶠ_}
-use Rattle.integers.specs.Values.{same-value, other-way, _then_}
+use lib.IntN.{ℤ, pos, _+ℤ_, _*ℤ_}
+use Rattle.integers.specs.Bridge.{nat, _⊕_, _⊖_, eq! }
+use Rattle.integers.specs.Ring.{_:+_, _:*_, #, ring, v0, v1, v2, v3, v4, v5}
+use Rattle.integers.specs.Fraction.{whole, _≈ᶠ_}
+use Rattle.integers.specs.Values.{_then_}
 use Rattle.road.specs.File.{Road}
-use Rattle.road.specs.Exact.{tangentOf, tangentStart, total, vertexCount, vertex, halfLength, gradeChange, past, startHeight, tangentHeight, curveHeight, height, gradeBy, grade, from_to_}
-use Rattle.road.specs.Rules.{halfBefore}
-use Rattle.theorems.specs.Last.{Begun, begun-upto}
-use Rattle.theorems.specs.Facts.{start-next, curve-begins}
-use Rattle.theorems.specs.Small.{abs-product, abs-sum, abs-less, abs-from}
-use Rattle.theorems.specs.Pieces.{OnStraight}
+use Rattle.road.specs.Exact.{tangentOf, tangentStart, total, vertexCount, vertex, halfLength, gradeChange, past, startHeight, tangentHeight, curveHeight, height, grade, from_to_}
+use Rattle.theorems.specs.Last.{begun-upto}
+use Rattle.theorems.specs.Facts.{start-next}
+use Rattle.theorems.specs.Pieces.{OnStraight, OnCurve}
 use Rattle.theorems.specs.Joints.{tangent-positive, curve-positive}
 use Rattle.theorems.specs.Heights.{height-straight, height-curve}
+use Rattle.theorems.specs.Grades.{grade-straight, grade-curve}
 use Rattle.theorems.specs.Guaranteed.{Guaranteed}
 use Rattle.stretch.specs.Stretch.{heightIn, gradeIn}
 use Rattle.places.specs.declared.Piece.{Piece}
@@ -32,8 +27,6 @@ use Rattle.places.specs.declared.Bend.{Bend}
 use Rattle.places.specs.Places.{heightStart}
 use Rattle.places.specs.Pieces.{straightEnd, straightOf, curveOf, Straight, Curve, PieceAt, straight, curve}
 use Rattle.places.specs.View.{stretchOf}
-use Rattle.places.proofs.Cursors.{height-small}
-use Rattle.places.proofs.Grades.{on-curve, grade-straight, grade-curve}
 
 -- in millionths, before the denominators are multiplied out
 level : (H g d : ℤ) → (H *ℤ pos 1000000 +ℤ (g *ℤ d) *ℤ pos 1000000) *ℤ pos 1000000 ≡ (H +ℤ g *ℤ d) *ℤ pos 1000000000000
@@ -49,6 +42,9 @@ bowed H g c u d k h e = rw e (ring (H ∷ g ∷ c ∷ u ∷ pos k ∷ pos h ∷ 
 
 graded : (g c u : ℤ) (h : ℕ) → (g *ℤ pos (2 * h) +ℤ (c *ℤ u) *ℤ pos 1) *ℤ pos (2 * h) ≡ (g *ℤ pos (2 * h) +ℤ c *ℤ u) *ℤ pos (1 * (2 * h))
 graded g c u h = ring (g ∷ c ∷ u ∷ pos h ∷ []) ((v0 :* (# 2 :* v3) :+ (v1 :* v2) :* # 1) :* (# 2 :* v3)) ((v0 :* (# 2 :* v3) :+ v1 :* v2) :* (# 1 :* (# 2 :* v3))) tt
+
+on-curve : {r : Road} {i x : ℕ} → Curve r i x → OnCurve r i x
+on-curve c = let h = c .high in record { place = c .place; long = c .long; low = c .low; high = omega arith }
 
 module _ {r : Road} (G : Guaranteed r) where
   -- where a tangent's straight part ends, the curve has its half length before the vertex
@@ -133,9 +129,9 @@ module _ {r : Road} (G : Guaranteed r) where
     piece-height {p} {y} (straight i w s) l = subst (λ (p : Piece). height r y ≈ᶠ heightIn (stretchOf p q b e lane) y) (sym w) (straight-height i y s l)
     piece-height {p} {y} (curve i w s) l = subst (λ (p : Piece). height r y ≈ᶠ heightIn (stretchOf p q b e lane) y) (sym w) (curve-height i y s)
 
-    straight-grade : (i y : ℕ) → Straight r i y → grade r y ≈ᶠ gradeIn (stretchOf (straightOf r i) q b e lane) y
+    straight-grade : (i y : ℕ) → Straight r i y → y ≤ total r → grade r y ≈ᶠ gradeIn (stretchOf (straightOf r i) q b e lane) y
     unfolding gradeIn
-    straight-grade i y s = grade-straight G i y s
+    straight-grade i y s l = grade-straight (G .facts-of) (G .level-vertex) i y l (on-straight s l)
 
     curve-grade : (i y : ℕ) → Curve r i y → grade r y ≈ᶠ gradeIn (stretchOf (curveOf r i) q b e lane) y
     unfolding gradeIn
@@ -143,8 +139,8 @@ module _ {r : Road} (G : Guaranteed r) where
         let h = halfLength r i in
         let p = s .long in
         rw (ne-eqb h 0 (λ (z : h ≡ 0). omega arith), curve-past i y (s .place))
-        (grade-curve G i y s then record { left = omega arith; right = omega arith; same = graded (tangentOf r i .grade) (gradeChange r i) (past r i y) h })
+        (grade-curve (G .facts-of) (G .level-vertex) i y (on-curve s) then record { left = omega arith; right = omega arith; same = graded (tangentOf r i .grade) (gradeChange r i) (past r i y) h })
 
-    pub piece-grade : {p : Piece} {y : ℕ} → PieceAt r p y → grade r y ≈ᶠ gradeIn (stretchOf p q b e lane) y
-    piece-grade {p} {y} (straight i w s) = subst (λ (p : Piece). grade r y ≈ᶠ gradeIn (stretchOf p q b e lane) y) (sym w) (straight-grade i y s)
-    piece-grade {p} {y} (curve i w s) = subst (λ (p : Piece). grade r y ≈ᶠ gradeIn (stretchOf p q b e lane) y) (sym w) (curve-grade i y s)
+    pub piece-grade : {p : Piece} {y : ℕ} → PieceAt r p y → y ≤ total r → grade r y ≈ᶠ gradeIn (stretchOf p q b e lane) y
+    piece-grade {p} {y} (straight i w s) l = subst (λ (p : Piece). grade r y ≈ᶠ gradeIn (stretchOf p q b e lane) y) (sym w) (straight-grade i y s l)
+    piece-grade {p} {y} (curve i w s) l = subst (λ (p : Piece). grade r y ≈ᶠ gradeIn (stretchOf p q b e lane) y) (sym w) (curve-grade i y s)

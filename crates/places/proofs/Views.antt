@@ -2,7 +2,8 @@
 use mathlib.Core.Path.{_≡_, refl, sym, ap, ap₂, _∙_, subst}
 use mathlib.Core.Bool.{Bool, true, false}
 use mathlib.Core.List.{[], _∷_, List·Memᴰ}
-use Prim.Native.Nat.{ℕ, zero, suc, _+_, _*_, _-_, _%_, _≤_, _<_, min}
+use mathlib.Core.Logic.{inl, inr}
+use Prim.Native.Nat.{ℕ, suc, _+_, _*_, _-_, _%_, _≤_, _<_, min}
 use native.Mathlib.Omega.{arith}
 use native.Mathlib.Decide.{decLt, decLe}
 use native.Mathlib.Nat.{mul-mod-left}
@@ -10,24 +11,24 @@ use borrow.Author.Tests.{leb-true, leb-false}
 use lib.ListN.{length}
 use lib.Dec.{leb}
 use lib.IntN.{ℤ, pos, natAbs, _+ℤ_, _-ℤ_, _*ℤ_}
-use lib.Signed.{_≤ℤ_, _<ℤ_}
-use Rattle.integers.specs.Bridge.{nat, _⊖_, le!, lt!, eq! }
+use Rattle.integers.specs.Bridge.{nat, _⊖_, le!, lt!, eq!, abs-difference}
 use Rattle.integers.specs.Ring.{_:+_, _:-_, _:*_, #, ring, v0, v1, v2, v3}
-use Rattle.integers.specs.Fraction.{Frac, _÷_, _≈ᶠ_}
-use Rattle.integers.specs.Values.{same-value, _then_, mul-value}
+use Rattle.integers.specs.Fraction.{_÷_, _≈ᶠ_}
+use Rattle.integers.specs.Values.{_then_, mul-value}
 use Rattle.road.specs.Base.{if_then_else_}
 use Rattle.road.specs.File.{Road}
 use Rattle.road.specs.Limits.{limits}
-use Rattle.road.specs.Exact.{elementOf, pointOf, elementStart, elementAt, total, vertexCount, Side, left, right, crossfallOf, crossfallBy, crossfall, edgeDrop, curvatureOn, curvature, from_to_}
+use Rattle.road.specs.Exact.{pointOf, elementStart, total, Side, left, right, crossfallBy, crossfall, edgeDrop, curvature, from_to_}
 use Rattle.road.specs.Listed.{stations, listed}
-use Rattle.theorems.specs.Last.{Rising, rises-to, Begun, begun, begun-one, begun-before, begun-upto}
+use Rattle.theorems.specs.Last.{Rising, rises-to, Begun, begun-before, begun-upto}
 use Rattle.theorems.specs.Facts.{element-next, elements-rise, points-rise, points-end}
-use Rattle.theorems.specs.Small.{abs-less, abs-from}
-use Rattle.theorems.specs.Stations.{point-listed}
+use Rattle.theorems.specs.Small.{abs-from}
+use Rattle.theorems.specs.Stations.{Named, zero-station, end-station, multiple, element-end, curve-start, curve-end, bare-vertex, point, listed-exactly, stations-has, point-listed}
+use Rattle.theorems.specs.Curvatures.{OnElement}
 use Rattle.theorems.specs.Next.{listed-has}
-use Rattle.theorems.specs.Crossfalls.{BetweenPoints, crossfall-between, pair-positive}
+use Rattle.theorems.specs.Crossfalls.{BetweenPoints, crossfall-between}
 use Rattle.theorems.specs.Guaranteed.{Guaranteed}
-use Rattle.stretch.specs.Stretch.{sideStart, sideChange, crossfallOver, crossfallIn, dropIn, curvatureIn, Sound, Shows}
+use Rattle.stretch.specs.Stretch.{sideStart, sideChange, crossfallIn, dropIn, curvatureIn, Sound, Shows}
 use Rattle.stretch.specs.declared.Stretch.{Stretch}
 use Rattle.places.specs.declared.Piece.{Piece}
 use Rattle.places.specs.declared.Sides.{Sides}
@@ -38,11 +39,10 @@ use Rattle.places.specs.Places.{pointStation, PlaceReached, PlaceFound}
 use Rattle.places.specs.Pieces.{PieceAt}
 use Rattle.places.specs.Sides.{sidesOf}
 use Rattle.places.specs.Bends.{Curved}
-use Rattle.places.specs.Stations.{StationOf, first, last, multiple, element, curve, point, listed-is, element-listed}
 use Rattle.places.specs.View.{stretchOf, jointOf, Viewed}
-use Rattle.places.proofs.Cursors.{begun-later, element-first}
+use Rattle.places.proofs.Cursors.{begun-later}
 use Rattle.places.proofs.Profiles.{piece-later, piece-height, piece-grade}
-use Rattle.places.proofs.PieceFacts.{Small, piece-small, piece-beyond, piece-listed, piece-free}
+use Rattle.places.proofs.PieceFacts.{piece-small, piece-beyond, piece-listed, piece-free}
 
 -- ---- one cursor: the same item up to the next start
 same-item : {f : ℕ → ℕ} {n x y i : ℕ} → Begun f n x i → x ≤ y → (x < y → y < f (suc i)) → Begun f n y i
@@ -101,16 +101,16 @@ module _ {r : Road} (G : Guaranteed r) where
     sides-small left =
         let h = B .place in
         let c = G .crossfall left k (omega arith) in
-        (c, abs-less (pointOf r (suc k) .left) (pointOf r k .left) (G .crossfall left (suc k) h) c)
+        (c, abs-difference (pointOf r (suc k) .left) (pointOf r k .left) (G .crossfall left (suc k) h) c)
     sides-small right =
         let h = B .place in
         let c = G .crossfall right k (omega arith) in
-        (c, abs-less (pointOf r (suc k) .right) (pointOf r k .right) (G .crossfall right (suc k) h) c)
+        (c, abs-difference (pointOf r (suc k) .right) (pointOf r k .right) (G .crossfall right (suc k) h) c)
 
   -- ---- the curvature
-  curvature-is : {y i : ℕ} → Begun (elementStart r) (length (r .plan)) y i → curvature r y ≡ curvatureOn r i y
-  unfolding curvature elementAt
-  curvature-is {y} {i} b = ap (λ (j : ℕ). curvatureOn r j y) (begun-one (elementStart r) (length (r .plan)) y (elementAt r y) i (elements-rise r) (begun (elementStart r) (length (r .plan)) y (G .plan-count .low) (omega (arith, element-first r))) b)
+  on-element : {y i : ℕ} → Begun (elementStart r) (length (r .plan)) y i → y ≤ total r → OnElement r i y
+  unfolding total
+  on-element b t = record { place = b .below; low = b .from; high = begun-upto b t }
 
   -- ---- all that the numbers of a stretch say at a station
   module _ (p : Piece) (b : Bend) (i k y : ℕ) (P : PieceAt r p y) (C : Curved r i b) (E : Begun (elementStart r) (length (r .plan)) y i) (B : BetweenPoints r k y) (t : y ≤ total r) where
@@ -161,13 +161,13 @@ module _ {r : Road} (G : Guaranteed r) where
 
     bent : curvature r y ≈ᶠ curvatureIn s y
     unfolding curvatureIn
-    bent = subst (λ (f : Frac). f ≈ᶠ curvatureIn s y) (sym (curvature-is E)) (C .value y)
+    bent = C .value y (on-element E t)
 
     shown : Shows r s y
     shown = record {
       sound = sound;
       height = piece-height G (sidesOf (pointOf r k) (pointOf r (suc k))) b (elementStart r i) (limits r .lane) P t;
-      grade = piece-grade G (sidesOf (pointOf r k) (pointOf r (suc k))) b (elementStart r i) (limits r .lane) P;
+      grade = piece-grade G (sidesOf (pointOf r k) (pointOf r (suc k))) b (elementStart r i) (limits r .lane) P t;
       crossfall = crossfall-is p b (elementStart r i) k y B;
       drop = drop-is p b (elementStart r i) k y B;
       curvature = bent;
@@ -235,16 +235,21 @@ module _ {r : Road} (G : Guaranteed r) where
           piece = λ y a b c. omega arith;
           element = λ y a b c. omega arith;
           point = λ y a b c. omega arith;
-          free = λ z m a b. clear z a b (listed-is G z m);
-          listed = λ l. one-of (λ (j : ℕ). List·Memᴰ j (stations r)) (p .end) ends (pointStation r (suc k)) (piece-listed G P) (element-listed r i n) (point-listed r (suc k) (omega arith));
+          free = λ z m a b. clear z a b (listed-exactly (G .facts-of) positive z .0 m);
+          listed = λ l. one-of (λ (j : ℕ). List·Memᴰ j (stations r)) (p .end) ends (pointStation r (suc k)) (piece-listed G P) (stations-has r positive (element-end i n refl)) (point-listed r (suc k) (omega arith));
         }
       where
-        clear : (z : ℕ) → x < z → z < least → StationOf r z → z % r .step ≡ 0
-        clear z a b (first e) = absurd (omega arith)
-        clear z a b (last e) = absurd (let m = G .element-start (suc i) (E .below) in omega arith)
-        clear z a b (multiple m e) = ap (λ (n : ℕ). n % r .step) e ∙ mul-mod-left m (r .step)
-        clear z a b (element j l e) = absurd (omega (arith, next-start (elements-rise r) E (suc j) l (omega arith)))
-        clear z a b (curve j l e) = absurd (omega (arith, piece-free G P j z l e a))
+        positive : 0 < r .step
+        positive = let l = G .step .low in omega arith
+
+        clear : (z : ℕ) → x < z → z < least → Named r z → z % r .step ≡ 0
+        clear z a b (zero-station e) = absurd (omega arith)
+        clear z a b (end-station e) = absurd (let m = G .element-start (suc i) (E .below) in omega arith)
+        clear z a b (multiple m e l) = ap (λ (n : ℕ). n % r .step) e ∙ mul-mod-left m (r .step)
+        clear z a b (element-end j l e) = absurd (omega (arith, next-start (elements-rise r) E (suc j) l (omega arith)))
+        clear z a b (curve-start j l h e) = absurd (omega (arith, piece-free G P j z l (inl e) a))
+        clear z a b (curve-end j l h e) = absurd (omega (arith, piece-free G P j z l (inr e) a))
+        clear z a b (bare-vertex j l h e) = absurd (omega (arith, piece-free G P j z l (inr (omega arith)) a))
         clear z a b (point j l e) = absurd (omega (arith, next-start (points-rise (G .facts-of)) K j (omega arith) (omega arith)))
 
     joint-is : NextJoint p i k x (jointOf ends (p .end) (pointStation r (suc k)) x)

@@ -1,18 +1,17 @@
 -- Numbers of 32 bits in locals of 64.
-use mathlib.Core.Path.{_≡_, refl, sym, ap, ap₂, _∙_, subst}
-use mathlib.Core.Bool.{Bool, true, false}
-use Prim.Native.Nat.{ℕ, zero, suc, _+_, _*_, _<_, _≤_}
+use mathlib.Core.Path.{_≡_, refl, ap, ap₂, _∙_}
+use mathlib.Core.Bool.{true, false}
+use Prim.Native.Nat.{ℕ, _<_, _≤_}
 use native.Mathlib.Omega.{arith}
-use native.Mathlib.Nat.{mul-le-mul}
 use lib.IntN.{ℤ, pos, negsuc, natAbs, _+ℤ_, _-ℤ_, _*ℤ_}
 use lib.Signed.{ltZ}
 use borrow.Author.Tests.{ltb-true}
 use mir.Syntax.{w32, w64}
-use mir.Val.{Fits, SFits, toZ, ofZ}
+use mir.Val.{SFits, toZ, ofZ}
 use mir.Facts.{toZ-ofZ, toZ-pos, sfits-widen}
-use Rattle.integers.specs.Bridge.{abs-mul, abs-add}
-use Rattle.integers.specs.Width.{fits64}
-use Rattle.theorems.specs.Small.{abs-product, abs-sum, abs-less, abs-from}
+use Rattle.integers.specs.Bridge.{abs-sum, abs-difference, abs-product}
+use Rattle.integers.specs.Width.{fits, fits64}
+use Rattle.theorems.specs.Small.{abs-from}
 use Rattle.places.specs.Bends.{turned}
 
 -- a local of 64 bits holds what fits
@@ -31,12 +30,8 @@ pub small : (z : ℤ) → SFits w32 z → natAbs z ≤ 2147483648
 small (pos n) f = let h : n < 2147483648 = f .sfits in omega arith
 small (negsuc n) f = let h : n < 2147483648 = f .sfits in omega arith
 
-pub fits32 : (z : ℤ) → natAbs z < 2147483648 → SFits w32 z
-fits32 (pos n) h = record { sfits = h }
-fits32 (negsuc n) h = record { sfits = omega arith }
-
 pub change-fits : (v w : ℤ) → SFits w32 v → SFits w32 w → SFits w64 (w -ℤ v)
-change-fits v w f g = fits64 (w -ℤ v) (omega (arith, abs-less w v (small w g) (small v f)))
+change-fits v w f g = fits64 (w -ℤ v) (omega (arith, abs-difference w v (small w g) (small v f)))
 
 pub changed : {z v w : ℤ} → z ≡ toZ w32 (ofZ w32 w) -ℤ toZ w32 (ofZ w32 v) → SFits w32 v → SFits w32 w → toZ w64 (ofZ w64 z) ≡ w -ℤ v
 changed {z} {v} {w} e f g = local (e ∙ ap₂ _-ℤ_ (toZ-ofZ g) (toZ-ofZ f)) (change-fits v w f g)
@@ -57,13 +52,13 @@ module _ (h g z : ℤ) (n : ℕ) (hs : natAbs h ≤ 15000000000000) (gs : natAbs
   start-is = toZ-ofZ (fits64 h (omega arith))
 
   rise-is : toZ w64 (ofZ w64 z) ≡ g *ℤ pos n
-  rise-is = local (e ∙ ap (λ (x : ℤ). x *ℤ pos n) (toZ-ofZ (fits32 g (omega arith)))) (fits64 (g *ℤ pos n) (omega (arith, small-rise)))
+  rise-is = local (e ∙ ap (λ (x : ℤ). x *ℤ pos n) (toZ-ofZ (fits w32 g (omega arith)))) (fits64 (g *ℤ pos n) (omega (arith, small-rise)))
 
   sum-fits : SFits w64 (h +ℤ g *ℤ pos n)
   sum-fits = fits64 (h +ℤ g *ℤ pos n) (omega (arith, abs-sum h (g *ℤ pos n) hs small-rise))
 
   less-fits : SFits w64 (h -ℤ g *ℤ pos n)
-  less-fits = fits64 (h -ℤ g *ℤ pos n) (omega (arith, abs-less h (g *ℤ pos n) hs small-rise))
+  less-fits = fits64 (h -ℤ g *ℤ pos n) (omega (arith, abs-difference h (g *ℤ pos n) hs small-rise))
 
   pub above-fits : SFits w64 (toZ w64 (ofZ w64 h) +ℤ toZ w64 (ofZ w64 z))
   above-fits = rw (start-is, rise-is) sum-fits

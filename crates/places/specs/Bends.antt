@@ -1,10 +1,11 @@
 -- The curvature of an element as whole numbers: (bend + change × distance from the element's start) / span.
-use Prim.Native.Nat.{ℕ, _*_, _≤_, _<_}
+use Prim.Native.Nat.{ℕ, _*_, _≤_}
 use lib.IntN.{ℤ, pos, negsuc, natAbs, _+ℤ_, _-ℤ_, _*ℤ_}
 use lib.Signed.{_<ℤ_}
 use Rattle.integers.specs.Fraction.{_÷_, _≈ᶠ_}
 use Rattle.road.specs.File.{Road}
-use Rattle.road.specs.Exact.{elementOf, elementStart, curvatureOn, from_to_}
+use Rattle.road.specs.Exact.{elementOf, elementStart, curvature, from_to_}
+use Rattle.theorems.specs.Curvatures.{OnElement}
 use Rattle.places.specs.declared.Bend.{Bend}
 
 -- 10⁹ with the sign of a radius
@@ -28,7 +29,7 @@ outBend radius length = record { bend = turned radius *ℤ pos length; change = 
 
 -- a bend says the curvature of element i, and its numbers are small
 pub record Curved (r : Road) (i : ℕ) (b : Bend) : Type 0 where
-  pub value : (y : ℕ) → curvatureOn r i y ≈ᶠ (b .bend +ℤ b .change *ℤ (from elementStart r i to y)) ÷ natAbs (b .span)
+  pub value : (y : ℕ) → OnElement r i y → curvature r y ≈ᶠ (b .bend +ℤ b .change *ℤ (from elementStart r i to y)) ÷ natAbs (b .span)
   pub bend-size : natAbs (b .bend) ≤ 10000000000000000
   pub change-size : natAbs (b .change) ≤ 1000000000
   pub span-low : pos 0 <ℤ b .span

@@ -2,5 +2,4 @@ pub mod Places
 pub mod Pieces
 pub mod Sides
 pub mod Bends
-pub mod Stations
 pub mod View

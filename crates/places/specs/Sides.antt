@@ -1,6 +1,5 @@
 -- The crossfalls from a point to the next, as whole numbers.
-use Prim.Native.Nat.{ℕ}
-use lib.IntN.{ℤ, pos, _-ℤ_}
+use lib.IntN.{pos, _-ℤ_}
 use Rattle.road.specs.declared.Crossfall.{Crossfall}
 use Rattle.places.specs.declared.Sides.{Sides}
 

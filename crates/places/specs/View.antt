@@ -1,13 +1,18 @@
 -- What a view of a station says: the stretch there serves up to the next joint.
 use mathlib.Core.Path.{_≡_}
 use mathlib.Core.List.{List·Memᴰ}
-use Prim.Native.Nat.{ℕ, suc, _+_, _%_, _≤_, _<_, min}
+use Prim.Native.Nat.{ℕ, _+_, _/_, _%_, _≤_, _<_, min}
+use native.Mathlib.Omega.{arith}
+use native.Mathlib.Decide.{ℕ-discrete}
+use native.Mathlib.Nat.{div-add-mod'}
 use lib.Dec.{leb}
-use lib.IntN.{ℤ, pos}
+use lib.IntN.{pos}
 use Rattle.road.specs.Base.{if_then_else_}
 use Rattle.road.specs.File.{Road}
 use Rattle.road.specs.Exact.{total}
 use Rattle.road.specs.Listed.{listed}
+use Rattle.theorems.specs.Stations.{Named, end-station, multiple, listed-exactly}
+use Rattle.theorems.specs.Guaranteed.{Guaranteed}
 use Rattle.stretch.specs.Stretch.{Shows}
 use Rattle.stretch.specs.declared.Stretch.{Stretch}
 use Rattle.places.specs.Places.{PlaceReached}
@@ -52,3 +57,11 @@ pub record Viewed (r : Road) (v : View) (x : ℕ) : Type 0 where
   -- between x and the joint only multiples of step are listed, and the joint itself is
   pub between : (z : ℕ) → List·Memᴰ z (listed r) → x < z → z < v .joint → z % r .step ≡ 0
   pub listed : v .joint ≤ total r → List·Memᴰ (v .joint) (listed r)
+
+-- a multiple of step up to T is listed
+pub multiple-listed : {r : Road} → Guaranteed r → (z : ℕ) → z % r .step ≡ 0 → z ≤ total r → List·Memᴰ z (listed r)
+multiple-listed {r} G z e l = listed-exactly (G .facts-of) (let s = G .step .low in omega arith) z .1 (go (ℕ-discrete z (total r)))
+  where
+    go : Dec (z ≡ total r) → Named r z
+    go (yes q) = end-station q
+    go (no q) = let d = div-add-mod' z (r .step) in multiple (z / r .step) (omega arith) (omega (arith, q))

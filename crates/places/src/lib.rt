@@ -1,11 +1,11 @@
 // A station's places on the three lists of an accepted alignment, the stretch there, and the next joint.
 ghost use mathlib.Core.Path.{_≡_};
-ghost use Prim.Native.Nat.{ℕ, suc, _+_, _*_, _-_, _≤_, _<_, min};
+ghost use Prim.Native.Nat.{ℕ, suc, _-_, _≤_, _<_, min};
 ghost use lib.ListN.{length};
-ghost use lib.IntN.{ℤ, pos, natAbs, _+ℤ_, _-ℤ_, _*ℤ_};
+ghost use lib.IntN.{pos, natAbs, _-ℤ_, _*ℤ_};
 ghost use Rattle.theorems.specs.Last.{Begun};
 ghost use Rattle.road.specs.Limits.{limits};
-ghost use Rattle.road.specs.Exact.{elementOf, pointOf, elementStart, total};
+ghost use Rattle.road.specs.Exact.{pointOf, elementStart, total};
 ghost use Rattle.road.specs.Held.{roadIn};
 ghost use Rattle.places.specs.Places.{Ready, Reached, pointStation, ElementReached, ElementFound, TangentReached, TangentFound, PlaceReached, PlaceFound, Sized, nextPlace};
 ghost use Rattle.places.specs.Pieces.{curveFrom, curveBefore, curveAfter, straightPart, PieceAt};
@@ -14,7 +14,6 @@ ghost use Rattle.places.specs.Bends.{turned, arcBend, inBend, outBend, C
 ghost use Rattle.places.specs.View.{stretchOf, jointOf, Viewed};
 use road::Alignment;
 use road::Crossfall;
-use road::Element;
 use road::Tangent;
 use stretch::Stretch;
 
@@ -143,7 +142,7 @@ fn element_on(a: Alignment, p: ElementPlace, x: u64) -> ElementPlace
     ElementPlace { index: i, begin }
 }
 
-// The last crossfall point but the last that is at or before x.
+// The last crossfall point at or before x, of all but the road's last.
 fn point_on(a: Alignment, point: usize, x: u64) -> usize
     requires { ⌜ Ready a ⌝ ∗ ⌜ Reached (pointStation (roadIn a)) (length (roadIn a .crossfalls) - 1) x point ⌝ }
     ensures { λ r. ⌜ Begun (pointStation (roadIn a)) (length (roadIn a .crossfalls) - 1) x r ⌝ }
@@ -300,7 +299,7 @@ fn straight_part(p: TangentPlace, t: Tangent) -> Piece
 
 // The piece of the profile that has x.
 fn piece_on(a: Alignment, p: TangentPlace, x: u64) -> Piece
-    requires { ⌜ Ready a ⌝ ∗ ⌜ TangentFound (roadIn a) p x ⌝ ∗ ⌜ x ≤ total (roadIn a) ⌝ }
+    requires { ⌜ Ready a ⌝ ∗ ⌜ TangentFound (roadIn a) p x ⌝ }
     ensures { λ r. ⌜ PieceAt (roadIn a) r x ⌝ }
 {
     let i = p.index;

@@ -1,13 +1,12 @@
 use mathlib.Core.Path.{_≡_, sym, ap, ap₂, _∙_, subst}
-use Prim.Native.Nat.{ℕ, suc, _+_, _-_, _<_}
+use Prim.Native.Nat.{suc, _+_, _-_}
 use native.Mathlib.Omega.{arith}
 use native.Mathlib.Numerals.{add-one}
-use lib.ListN.{length}
-use lib.IntN.{ℤ}
+use lib.ListN.{getD}
 use mir.Syntax.{w32}
 use mir.Val.{SFits}
 use mir.Facts.{toZ-ofZ}
-use Rattle.road.specs.Exact.{elementOf}
+use Rattle.road.specs.Exact.{blankElement, elementOf}
 use Rattle.road.specs.Held.{roadIn}
 use Rattle.road.specs.declared.Element.{Element}
 use Rattle.places.specs.Bends.{arcBend, inBend, outBend, Curved}
@@ -20,6 +19,10 @@ use Rattle.places.proofs.bend_on.Tie as tie
 mul-e : tie.Need-mul-e
 mul-e c = search needs
 
+-- the element of the place is the road's
+item : (s : tie.Start) → getD (s .args .t1 .elements) (s .args .i) blankElement ≡ elementOf (roadIn (s .args .t1)) (s .args .i)
+item s = element-item (s .args .t1) (s .args .i) (element-within (s .args .t1) (s .args .i) (s .pre .1))
+
 element-copy-out-e : tie.Need-element-copy-out-e
 element-copy-out-e c = search needs
 
@@ -31,7 +34,7 @@ returns c =
     let s = c .before .before .before .before .before in
     let a = s .args .t1 in
     let i = s .args .i in
-    let q = element-item a i (element-within a i (s .pre .1)) in
+    let q = item s in
     let k : elementOf (roadIn a) i .kind ≡ 1 = ap (λ (e : Element). e .kind) (sym q) ∙ c .before .before .if1 .taken in
     let f : SFits w32 _ = record { sfits = c .before .struct-told .given .1 .1 .0 .1 } in
     subst (Curved (roadIn a) i) (sym (c .arc-bend .ensures ∙ ap arcBend (toZ-ofZ f ∙ ap (λ (e : Element). e .radius) q))) (arc-curved (s .pre .0 .road) i (s .pre .1) k)
@@ -41,7 +44,7 @@ returns-2 c =
     let s = c .before .before .before .before .before in
     let a = s .args .t1 in
     let i = s .args .i in
-    let q = ap (λ (e : Element). e .kind) (element-item a i (element-within a i (s .pre .1))) in
+    let q = ap (λ (e : Element). e .kind) (item s) in
     straight-curved (s .pre .0 .road) i (other-kind (s .pre .0 .road) i (s .pre .1) (λ (k : elementOf (roadIn a) i .kind ≡ 1). c .before .before .if1 .left (q ∙ k)) (λ (k : elementOf (roadIn a) i .kind ≡ 2). c .if2 .taken (q ∙ k)))
 
 sub-h : tie.Need-sub-h
@@ -49,7 +52,7 @@ sub-h c =
     let s = c .before .before .before .before .before in
     let a = s .args .t1 in
     let i = s .args .i in
-    let q = ap (λ (e : Element). e .kind) (element-item a i (element-within a i (s .pre .1))) in
+    let q = ap (λ (e : Element). e .kind) (item s) in
     clothoid-inside (s .pre .0 .road) i (s .pre .1) (sym q ∙ c .if2 .left) .0
 
 mul-before : tie.Need-mul-before
@@ -68,7 +71,7 @@ returns-3 c =
     let i = s .args .i in
     let G = s .pre .0 .road in
     let h = element-within a i (s .pre .1) in
-    let q = element-item a i h in
+    let q = item s in
     let w = element-item a (i - 1) (omega arith) in
     let k : elementOf (roadIn a) i .kind ≡ 2 = ap (λ (e : Element). e .kind) (sym q) ∙ c .before .before .before .before .before .if2 .left in
     let f : SFits w32 _ = record { sfits = c .before .struct-told2 .given .1 .1 .0 .1 } in
@@ -94,7 +97,7 @@ returns-4 c =
     let i = s .args .i in
     let G = s .pre .0 .road in
     let h = element-within a i (s .pre .1) in
-    let q = element-item a i h in
+    let q = item s in
     let w = element-item a (i - 1) (omega arith) in
     let k : elementOf (roadIn a) i .kind ≡ 2 = ap (λ (e : Element). e .kind) (sym q) ∙ c .before .before .before .before .before .before .if2 .left in
     let m = element-within a (suc i) (clothoid-inside G i (s .pre .1) k .1) in

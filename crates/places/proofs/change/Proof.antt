@@ -1,4 +1,4 @@
-use mathlib.Core.Path.{ap₂, _∙_}
+use mathlib.Core.Path.{ap₂}
 use lib.IntN.{_-ℤ_}
 use borrow.Author.Needs.{needs}
 use Rattle.places.proofs.Widths.{local, widened, change-fits}

@@ -1,11 +1,10 @@
-use mathlib.Core.Path.{_≡_, ap, ap₂, _∙_}
 use Prim.Native.Nat.{_-_}
 use native.Mathlib.Omega.{arith}
-use lib.IntN.{ℤ}
 use mir.Syntax.{w32}
 use mir.Val.{SFits}
 use mir.Facts.{toZ-ofZ}
-use Rattle.places.proofs.Widths.{fits32, above, above-fits}
+use Rattle.integers.specs.Width.{fits}
+use Rattle.places.proofs.Widths.{above, above-fits}
 use borrow.Author.Needs.{needs}
 use Rattle.places.proofs.curve_after.Statement.{statement}
 use Rattle.places.proofs.curve_after.Tie as tie
@@ -36,10 +35,9 @@ returns c =
     let s = c .before .before .before .before .before .before .before .before in
     let p = s .args .p in
     let t = s .args .t in
-    let f : SFits w32 (t .grade) = fits32 (t .grade) (omega (arith, s .pre .grade)) in
+    let f : SFits w32 (t .grade) = fits w32 (t .grade) (omega (arith, s .pre .grade)) in
     let g : SFits w32 (s .args .next .grade) = record { sfits = c .before .struct-told3 .given .1 .0 .1 } in
-    c .curve-from .ensures
-    ∙ rw (above (p .height) (t .grade) _ (t .length - t .half) (s .pre .height) (s .pre .grade) (omega (arith, s .pre .length)) (c .before .before .before .before .before .rise .ensures), toZ-ofZ f, toZ-ofZ g)
+    rw (above (p .height) (t .grade) _ (t .length - t .half) (s .pre .height) (s .pre .grade) (omega (arith, s .pre .length)) (c .before .before .before .before .before .rise .ensures), toZ-ofZ f, toZ-ofZ g) at (c .curve-from .ensures)
 
 pub curve-after-spec : {M : Type 1} → statement M
 curve-after-spec =

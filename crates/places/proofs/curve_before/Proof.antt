@@ -1,12 +1,9 @@
-use mathlib.Core.Path.{_≡_, ap, ap₂, _∙_}
-use Prim.Native.Nat.{_-_}
 use native.Mathlib.Omega.{arith}
-use lib.IntN.{ℤ}
 use mir.Syntax.{w32}
 use mir.Val.{SFits}
 use mir.Facts.{toZ-ofZ}
-use Rattle.places.specs.Pieces.{curveFrom}
-use Rattle.places.proofs.Widths.{fits32, below, below-fits}
+use Rattle.integers.specs.Width.{fits}
+use Rattle.places.proofs.Widths.{below, below-fits}
 use borrow.Author.Needs.{needs}
 use Rattle.places.proofs.curve_before.Statement.{statement}
 use Rattle.places.proofs.curve_before.Tie as tie
@@ -33,10 +30,9 @@ returns c =
     let s = c .before .before .before .before .before .before .before in
     let p = s .args .p in
     let t = s .args .t in
-    let f : SFits w32 (p .«grade_before») = fits32 (p .«grade_before») (omega (arith, s .pre .grade-before)) in
-    let g : SFits w32 (t .grade) = fits32 (t .grade) (omega (arith, s .pre .grade)) in
-    c .curve-from .ensures
-    ∙ rw (below (p .height) (p .«grade_before») _ (p .«half_before») (s .pre .height) (s .pre .grade-before) (omega (arith, s .pre .half-before)) (c .before .before .before .before .before .rise .ensures), toZ-ofZ f, toZ-ofZ g)
+    let f : SFits w32 (p .«grade_before») = fits w32 (p .«grade_before») (omega (arith, s .pre .grade-before)) in
+    let g : SFits w32 (t .grade) = fits w32 (t .grade) (omega (arith, s .pre .grade)) in
+    rw (below (p .height) (p .«grade_before») _ (p .«half_before») (s .pre .height) (s .pre .grade-before) (omega (arith, s .pre .half-before)) (c .before .before .before .before .before .rise .ensures), toZ-ofZ f, toZ-ofZ g) at (c .curve-from .ensures)
 
 pub curve-before-spec : {M : Type 1} → statement M
 curve-before-spec =

@@ -1,11 +1,10 @@
-use mathlib.Core.Path.{_≡_, sym, ap, ap₂, _∙_}
-use Prim.Native.Nat.{ℕ, suc, _+_, min}
+use mathlib.Core.Path.{ap, ap₂, _∙_}
+use Prim.Native.Nat.{_+_, min}
 use native.Mathlib.Omega.{arith}
 use native.Mathlib.Numerals.{add-one}
-use Rattle.road.specs.Exact.{elementStart, pointOf}
+use Rattle.road.specs.Exact.{pointOf}
 use Rattle.road.specs.Held.{roadIn}
 use Rattle.road.specs.declared.Crossfall.{Crossfall}
-use Rattle.places.specs.Places.{ElementFound, ElementReached}
 use Rattle.places.proofs.Cursors.{element-within, element-item, point-within, point-item, found-end}
 use Rattle.places.proofs.Found.{joint-last, joint-inner}
 use borrow.Author.Needs.{needs}

@@ -1,8 +1,9 @@
-use mathlib.Core.Path.{_≡_}
 use native.Mathlib.Omega.{arith}
 use borrow.Author.Needs.{needs}
+use mir.Syntax.{w32}
 use mir.Facts.{toZ-ofZ}
-use Rattle.places.proofs.Widths.{fits32, above, above-fits}
+use Rattle.integers.specs.Width.{fits}
+use Rattle.places.proofs.Widths.{above, above-fits}
 use Rattle.places.proofs.passed.Statement.{statement}
 use Rattle.places.proofs.passed.Tie as tie
 
@@ -26,7 +27,7 @@ add-t7 c =
 returns : tie.Need-returns
 returns c =
     let s = c .before .before .before .before .before .before .before .before in
-    rw (above (s .args .p .height) (s .args .t .grade) _ (s .args .t .length) (s .pre .height) (s .pre .grade) (s .pre .length) (c .before .before .before .before .before .before .rise .ensures), toZ-ofZ (fits32 (s .args .t .grade) (omega (arith, s .pre .grade))))
+    rw (above (s .args .p .height) (s .args .t .grade) _ (s .args .t .length) (s .pre .height) (s .pre .grade) (s .pre .length) (c .before .before .before .before .before .before .rise .ensures), toZ-ofZ (fits w32 (s .args .t .grade) (omega (arith, s .pre .grade))))
 
 pub passed-spec : {M : Type 1} → statement M
 passed-spec = tie.close (tie.spec rise-requires add-t4 cast-t5 add-t6 add-t7 returns)

@@ -1,15 +1,12 @@
 use mathlib.Core.Path.{_≡_, sym, ap, _∙_, subst}
-use mathlib.Core.Bool.{Bool, true, false}
-use mathlib.Core.Logic.{_⊎_, inl, inr}
-use Prim.Native.Nat.{ℕ, suc, _+_, _-_, _<_, _≤_}
+use Prim.Native.Nat.{suc, _+_, _-_}
 use native.Mathlib.Omega.{arith}
 use native.Mathlib.Numerals.{add-one}
 use lib.ListN.{length, getD}
 use Rattle.road.specs.Exact.{blankTangent, tangentOf}
 use Rattle.road.specs.Held.{roadIn}
-use Rattle.road.specs.declared.Alignment.{Alignment}
-use Rattle.road.specs.declared.Tangent.{Tangent}
 use Rattle.places.specs.declared.Piece.{Piece}
+use Rattle.places.specs.Places.{Sized}
 use Rattle.places.specs.Pieces.{PieceAt}
 use Rattle.places.proofs.Cursors.{tangent-within, tangent-item, sized}
 use Rattle.places.proofs.Found.{on-part, past-part, before-piece, straight-piece, not-last, after-piece}
@@ -20,6 +17,13 @@ use Rattle.places.proofs.piece_on.Tie as tie
 mul-t : tie.Need-mul-t
 mul-t c = search needs
 
+-- the tangent of the place is the road's, and its numbers are small
+item : (s : tie.Start) → getD (s .args .t1 .tangents) (s .args .p .index) blankTangent ≡ tangentOf (roadIn (s .args .t1)) (s .args .p .index)
+item s = tangent-item (s .args .t1) (s .args .p .index) (tangent-within (s .args .t1) (s .args .p .index) (s .pre .1 .at .below))
+
+small : (s : tie.Start) → Sized (s .args .p) (getD (s .args .t1 .tangents) (s .args .p .index) blankTangent)
+small s = sized (s .pre .0 .road) _ (s .pre .1 .placed) (item s) (s .pre .1 .at .below)
+
 element-copy-out-t : tie.Need-element-copy-out-t
 element-copy-out-t c = search needs
 
@@ -27,45 +31,36 @@ cast-if1 : tie.Need-cast-if1
 cast-if1 c = search needs
 
 add-if1 : tie.Need-add-if1
-add-if1 c = search needs
+add-if1 c = let z = small (c .before .before) in record { fits = omega arith }
 
 curve-before-requires : tie.Need-curve-before-requires
-curve-before-requires c κs =
-    let s = c .before .before .before in
-    let f = s .pre .1 .0 in
-    sized (s .pre .0 .road) _ (f .placed) (tangent-item (s .args .t1) (s .args .p .index) (tangent-within (s .args .t1) _ (f .at .below))) (f .at .below)
+curve-before-requires c κs = small (c .before .before .before)
 
 returns : tie.Need-returns
 returns c =
     let s = c .before .before .before .before in
-    let f = s .pre .1 .0 in
+    let f = s .pre .1 in
     subst (λ (p : Piece). PieceAt (roadIn (s .args .t1)) p (s .args .x)) (sym (c .curve-before .ensures))
-    (before-piece (s .pre .0 .road) _ f (tangent-item (s .args .t1) (s .args .p .index) (tangent-within (s .args .t1) _ (f .at .below))) (c .before .if1 .taken))
+    (before-piece (s .pre .0 .road) _ f (item s) (c .before .if1 .taken))
 
 sub-far : tie.Need-sub-far
-sub-far c =
-    let s = c .before .before .before .before in
-    let f = s .pre .1 .0 in
-    sized (s .pre .0 .road) _ (f .placed) (tangent-item (s .args .t1) (s .args .p .index) (tangent-within (s .args .t1) _ (f .at .below))) (f .at .below) .half
+sub-far c = small (c .before .before .before .before) .half
 
 cast-if2 : tie.Need-cast-if2
 cast-if2 c = search needs
 
 add-if2 : tie.Need-add-if2
-add-if2 c = search needs
+add-if2 c = let z = small (c .before .before .before .before) in record { fits = omega arith }
 
 straight-part-requires : tie.Need-straight-part-requires
-straight-part-requires c κs =
-    let s = c .before .before .before .before .before .before in
-    let f = s .pre .1 .0 in
-    sized (s .pre .0 .road) _ (f .placed) (tangent-item (s .args .t1) (s .args .p .index) (tangent-within (s .args .t1) _ (f .at .below))) (f .at .below)
+straight-part-requires c κs = small (c .before .before .before .before .before .before)
 
 returns-2 : tie.Need-returns-2
 returns-2 c =
     let s = c .before .before .before .before .before .before .before in
-    let f = s .pre .1 .0 in
+    let f = s .pre .1 in
     subst (λ (p : Piece). PieceAt (roadIn (s .args .t1)) p (s .args .x)) (sym (c .straight-part .ensures))
-    (straight-piece (s .pre .0 .road) _ f (tangent-item (s .args .t1) (s .args .p .index) (tangent-within (s .args .t1) _ (f .at .below))) (c .before .before .before .before .if1 .left) (on-part _ _ _ (c .before .if2 .taken)))
+    (straight-piece (s .pre .0 .road) _ f (item s) (c .before .before .before .before .if1 .left) (on-part _ _ _ (c .before .if2 .taken)))
 
 add-j : tie.Need-add-j
 add-j c = search needs
@@ -76,28 +71,23 @@ mul-next c = search needs
 element-copy-out-next : tie.Need-element-copy-out-next
 element-copy-out-next c =
     let s = c .before .before .before .before .before .before in
-    let f = s .pre .1 .0 in
-    let a = s .args .t1 in
     let p = s .args .p in
-    let t = getD (a .tangents) (p .index) blankTangent in
+    let t = getD (s .args .t1 .tangents) (p .index) blankTangent in
     let w = past-part (s .args .x) (p .begin + (t .length - t .half)) (t .half) (c .if2 .left) in
-    let n = not-last (s .pre .0 .road) t f (tangent-item a (p .index) (tangent-within a (p .index) (f .at .below))) (w .long) in
+    let n = not-last (s .pre .0 .road) t (s .pre .1) (item s) (w .long) in
     let m = s .pre .0 .road .tangent-count .high in
     omega arith
 
 curve-after-requires : tie.Need-curve-after-requires
-curve-after-requires c κs =
-    let s = c .before .before .before .before .before .before .before in
-    let f = s .pre .1 .0 in
-    sized (s .pre .0 .road) _ (f .placed) (tangent-item (s .args .t1) (s .args .p .index) (tangent-within (s .args .t1) _ (f .at .below))) (f .at .below)
+curve-after-requires c κs = small (c .before .before .before .before .before .before .before)
 
 returns-3 : tie.Need-returns-3
 returns-3 c =
     let s = c .before .before .before .before .before .before .before .before in
     let a = s .args .t1 in
     let i = s .args .p .index in
-    let f = s .pre .1 .0 in
-    let q = tangent-item a i (tangent-within a i (f .at .below)) in
+    let f = s .pre .1 in
+    let q = item s in
     let w = past-part _ _ _ (c .before .before .if2 .left) in
     let n = tangent-within a (suc i) (not-last (s .pre .0 .road) _ f q (w .long)) in
     subst (λ (p : Piece). PieceAt (roadIn a) p (s .args .x)) (sym (c .curve-after .ensures))

@@ -1,10 +1,6 @@
-use mathlib.Core.Path.{_≡_, refl, sym, ap, _∙_}
-use mathlib.Core.Bool.{true, false}
+use mathlib.Core.Path.{ap, _∙_}
 use native.Mathlib.Omega.{arith}
 use lib.IntN.{ℤ, pos, natAbs, _-ℤ_}
-use lib.Signed.{ltZ}
-use mir.Syntax.{w64}
-use mir.Val.{SFits}
 use borrow.Author.Needs.{needs}
 use Rattle.integers.specs.Width.{fits64}
 use Rattle.places.proofs.Widths.{local, widened, small, size-left, size-right}

@@ -1,10 +1,11 @@
 use mathlib.Core.Path.{ap, _∙_}
 use native.Mathlib.Omega.{arith}
 use lib.IntN.{ℤ, pos, _*ℤ_}
+use mir.Syntax.{w32}
 use mir.Facts.{toZ-ofZ}
-use Rattle.integers.specs.Width.{fits64}
-use Rattle.theorems.specs.Small.{abs-product}
-use Rattle.places.proofs.Widths.{local, fits32}
+use Rattle.integers.specs.Bridge.{abs-product}
+use Rattle.integers.specs.Width.{fits, fits64}
+use Rattle.places.proofs.Widths.{local}
 use Rattle.places.proofs.Found.{start-reached}
 use borrow.Author.Needs.{needs}
 use Rattle.places.proofs.start.Statement.{statement}
@@ -18,7 +19,7 @@ returns c =
     let s = c .before .before in
     let G = s .pre .road in
     let v = s .args .a .start in
-    start-reached G _ (local (c .rise .ensures ∙ ap (λ (z : ℤ). z *ℤ pos 1000000) (toZ-ofZ (fits32 v (omega (arith, G .start-size)))))
+    start-reached G _ (local (c .rise .ensures ∙ ap (λ (z : ℤ). z *ℤ pos 1000000) (toZ-ofZ (fits w32 v (omega (arith, G .start-size)))))
     (fits64 (v *ℤ pos 1000000) (omega (arith, abs-product v (pos 1000000) {l = 1000000} (G .start-size) (omega arith)))))
 
 pub start-spec : {M : Type 1} → statement M

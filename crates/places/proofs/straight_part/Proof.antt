@@ -1,8 +1,8 @@
 use native.Mathlib.Omega.{arith}
-use mir.Syntax.{w64}
+use mir.Syntax.{w32, w64}
 use mir.Facts.{toZ-ofZ, toZ-pos}
-use Rattle.integers.specs.Width.{fits64}
-use Rattle.places.proofs.Widths.{fits32, widened}
+use Rattle.integers.specs.Width.{fits, fits64}
+use Rattle.places.proofs.Widths.{widened}
 use borrow.Author.Needs.{needs}
 use Rattle.places.proofs.straight_part.Statement.{statement}
 use Rattle.places.proofs.straight_part.Tie as tie
@@ -27,7 +27,7 @@ returns c =
     let s = c .before .before .before .before .before .before in
     let p = s .args .p in
     let t = s .args .t in
-    rw (toZ-pos w64 {n = p .begin} (omega (arith, s .pre .begin)), toZ-ofZ (fits64 (p .height) (omega (arith, s .pre .height))), widened (c .before .before .before .before .wide .ensures) (fits32 (t .grade) (omega (arith, s .pre .grade))))
+    rw (toZ-pos w64 {n = p .begin} (omega (arith, s .pre .begin)), toZ-ofZ (fits64 (p .height) (omega (arith, s .pre .height))), widened (c .before .before .before .before .wide .ensures) (fits w32 (t .grade) (omega (arith, s .pre .grade))))
 
 pub straight-part-spec : {M : Type 1} → statement M
 straight-part-spec = tie.close (tie.spec wide-requires sub-far cast-t5 cast-t6 add-t7 returns)

@@ -1,0 +1,50 @@
+use mathlib.Core.Path.{sym, ap, _∙_}
+use borrow.Author.Needs.{needs}
+use denote.Ref.{now}
+use Rattle.acceptance.specs.Acceptance.{asGotBy}
+use Rattle.stationing.specs.Routines.{ready}
+use Rattle.listing.specs.Chunks.{list-accepted, list-refused}
+use Rattle.listing.proofs.list_rows.Statement.{statement}
+use Rattle.listing.proofs.list_rows.Tie as tie
+
+accept-requires : tie.Need-accept-requires
+accept-requires c κs = search needs
+
+enum-known-outcome : tie.Need-enum-known-outcome
+enum-known-outcome c = search needs
+
+enum-told : tie.Need-enum-told
+enum-told c = search needs
+
+put-rows-requires : tie.Need-put-rows-requires
+put-rows-requires c κs =
+    let r = c .before .before .before .before .accept in
+    ready (now (c .before .before .before .before .before .before .before .args .file)) (r .result .alignment) _ (sym (ap (asGotBy (r .result .alignment)) (c .before .enum-told .given .1)) ∙ r .ensures .0) (r .ensures .1)
+
+returns : tie.Need-returns
+returns c =
+    let r = c .before .before .before .before .accept in
+    let s = c .before .before .before .before .before .before .before .args in
+    list-refused (now (s .file)) (s .station) (now (s .out)) _ _ (sym (ap (asGotBy (r .result .alignment)) (c .before .outcome .given .1)) ∙ r .ensures .0)
+
+same-length : tie.Need-same-length
+same-length c = search needs
+
+returns-2 : tie.Need-returns-2
+returns-2 c =
+    let r = c .before .before .before .before .before .before .before .accept in
+    let s = c .before .before .before .before .before .before .before .before .before .before .args in
+    let g = list-accepted (now (s .file)) (s .station) (now (s .out)) _ _ (sym (ap (asGotBy (r .result .alignment)) (c .before .before .before .before .enum-told .given .1)) ∙ r .ensures .0) in
+    (c .before .before .put-rows .ensures .0 ∙ g .0, c .before .before .put-rows .ensures .1 ∙ g .1)
+
+pub list-rows-spec : {M : Type 1} → statement M
+list-rows-spec =
+    tie.close
+    (tie.spec
+    accept-requires
+    enum-known-outcome
+    enum-told
+    put-rows-requires
+    returns
+    same-length
+    returns-2)

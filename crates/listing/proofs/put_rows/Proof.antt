@@ -1,0 +1,68 @@
+use mathlib.Core.Path.{_≡_, sym, ap, _∙_}
+use borrow.Author.Needs.{needs}
+use denote.Ref.{now}
+use Rattle.road.specs.Held.{roadIn}
+use Rattle.road.specs.Limits.{limits}
+use Rattle.road.specs.Limits as road
+use Rattle.walk.specs.declared.Chunk.{Chunk}
+use Rattle.walk.specs.declared.Onward.{Onward}
+use Rattle.listing.specs.Chunks.{Listed, part, list-short, list-part}
+use Rattle.listing.proofs.put_rows.Statement.{statement}
+use Rattle.listing.proofs.put_rows.Tie as tie
+
+returns : tie.Need-returns
+returns c =
+    let s = c .before .before .args in
+    let g = list-short (roadIn (s .a)) (s .station) (now (s .out)) (c .if1 .taken) in
+    (g .answered, g .buffer)
+
+limits-of-requires : tie.Need-limits-of-requires
+limits-of-requires c κs = search needs
+
+rows-from-requires : tie.Need-rows-from-requires
+unfolding limits
+rows-from-requires c κs = (c .before .before .before .before .pre, ap (λ (l : road.Limits). l .lane) (c .before .limits-of .ensures))
+
+enum-known-next : tie.Need-enum-known-next
+enum-known-next c = search needs
+
+enum-told : tie.Need-enum-told
+enum-told c = search needs
+
+same-length : tie.Need-same-length
+same-length c = search needs
+
+-- the chunk's answer, its onward station taken apart
+answer-of : (c : Chunk) (n : Onward) → c .next ≡ n → part (record { bytes = c .bytes; next = n }) ≡ part c
+answer-of c n e = ap (λ (m : Onward). part (record { bytes = c .bytes; next = m })) (sym e)
+
+returns-2 : tie.Need-returns-2
+returns-2 c =
+    let s = c .before .before .before .before .before .before .before .before .before .before .args in
+    let r = c .before .before .before .before .before .rows-from in
+    let g = list-part (roadIn (s .a)) (s .station) (now (s .out)) (c .before .before .before .before .before .before .before .before .if1 .left) in
+    (answer-of (r .result) _ (c .before .next .given .1) ∙ ap part (r .ensures .0) ∙ g .answered, r .ensures .1 ∙ g .buffer)
+
+same-length-2 : tie.Need-same-length-2
+same-length-2 c = search needs
+
+returns-3 : tie.Need-returns-3
+returns-3 c =
+    let s = c .before .before .before .before .before .before .before .before .before .args in
+    let r = c .before .before .before .before .rows-from in
+    let g = list-part (roadIn (s .a)) (s .station) (now (s .out)) (c .before .before .before .before .before .before .before .if1 .left) in
+    (answer-of (r .result) _ (c .enum-told .given .1) ∙ ap part (r .ensures .0) ∙ g .answered, r .ensures .1 ∙ g .buffer)
+
+pub put-rows-spec : {M : Type 1} → statement M
+put-rows-spec =
+    tie.close
+    (tie.spec
+    returns
+    limits-of-requires
+    rows-from-requires
+    enum-known-next
+    enum-told
+    same-length
+    returns-2
+    same-length-2
+    returns-3)

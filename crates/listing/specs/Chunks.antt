@@ -1,0 +1,67 @@
+-- The list of a file in parts: the rows of the listed stations from a station on, as many whole rows as a buffer has room for.
+use mathlib.Core.Path.{_≡_, refl, sym, ap, _∙_}
+use mathlib.Core.List.{List, [], _∷_}
+use mathlib.Core.Bool.{Bool, true, false}
+use Prim.Native.Nat.{ℕ, _≤_, _<_}
+use lib.ListN.{length}
+use lib.Dec.{ltb}
+use borrow.Author.Tests.{lt-ltb, le-ltb}
+use Rattle.number.specs.Reading.{Got, got, refused}
+use Rattle.road.specs.Base.{if_then_else_}
+use Rattle.road.specs.File.{Road}
+use Rattle.road.specs.Rules.{accepted}
+use Rattle.road.specs.Machine.{overwrite}
+use Rattle.walk.specs.Rows.{Part, chunk, onward, answer}
+use Rattle.walk.specs.declared.Chunk.{Chunk}
+use Rattle.walk.specs.declared.Onward.{Onward}
+use Rattle.walk.specs.declared.Onward.the-variants as onwards
+use Rattle.listing.specs.declared.ListAnswer.{ListAnswer}
+use Rattle.listing.specs.declared.ListAnswer.the-variants as code
+
+-- a refusal, or a part of the list
+pub data Listed : Type 0 where
+  turnedAway : (number place : ℕ) → Listed
+  part : Chunk → Listed
+
+-- what each case of the code's answer stands for
+abbrev pub ofList : ListAnswer → Listed
+ofList (code.Refused n p) = turnedAway n p
+ofList (code.More bytes station) = part (record { bytes = bytes; next = onwards.From station })
+ofList (code.Done bytes) = part (record { bytes = bytes; next = onwards.Done })
+
+-- the file's refusals; then 20 for a buffer under 96 bytes; else as many rows as fit
+abbrev pub listOn : (station room : ℕ) → Got Road → Listed
+listOn s room (refused n p) = turnedAway n p
+listOn s room (got r _) = if ltb room 96 then turnedAway 20 0 else part (answer (chunk r s room))
+
+unfoldable pub listAnswer : List ℕ → (station room : ℕ) → Listed
+listAnswer f s room = listOn s room (accepted f)
+
+-- the rows over the first bytes of the buffer; a refusal leaves it untouched
+abbrev pub rowsOn : (station : ℕ) → List ℕ → Got Road → List ℕ
+rowsOn s b (refused _ _) = b
+rowsOn s b (got r _) = if ltb (length b) 96 then b else overwrite (chunk r s (length b) .text) b
+
+unfoldable pub listBuffer : List ℕ → (station : ℕ) → List ℕ → List ℕ
+listBuffer f s b = rowsOn s b (accepted f)
+
+-- ---- laws
+pub record ListGives (r : Road) (s : ℕ) (b : List ℕ) (given : Listed) (left : List ℕ) : Type 0 where
+  pub answered : given ≡ listOn s (length b) (got r 0)
+  pub buffer : left ≡ rowsOn s b (got r 0)
+
+module _ (r : Road) (s : ℕ) (b : List ℕ) where
+  pub list-short : length b < 96 → ListGives r s b (turnedAway 20 0) b
+  list-short h = record { answered = rw (lt-ltb (length b) 96 h); buffer = rw (lt-ltb (length b) 96 h) }
+
+  pub list-part : 96 ≤ length b → ListGives r s b (part (answer (chunk r s (length b)))) (overwrite (chunk r s (length b) .text) b)
+  list-part h = record { answered = rw (le-ltb (length b) 96 h); buffer = rw (le-ltb (length b) 96 h) }
+
+module _ (f : List ℕ) (s : ℕ) (b : List ℕ) where
+  pub list-accepted : (r : Road) (end : ℕ) → got r end ≡ accepted f → (listOn s (length b) (got r 0) ≡ listAnswer f s (length b)) × (rowsOn s b (got r 0) ≡ listBuffer f s b)
+  unfolding listAnswer listBuffer
+  list-accepted r end e = (ap (listOn s (length b)) e, ap (rowsOn s b) e)
+
+  pub list-refused : (n p : ℕ) → refused n p ≡ accepted f → (turnedAway n p ≡ listAnswer f s (length b)) × (b ≡ listBuffer f s b)
+  unfolding listAnswer listBuffer
+  list-refused n p e = (ap (listOn s (length b)) e, ap (rowsOn s b) e)

@@ -1,0 +1,36 @@
+use mathlib.Core.Path.{_≡_, sym, ap, _∙_}
+use Prim.Native.Nat.{ℕ, _+_, _≤_, _<_}
+use native.Mathlib.Omega.{arith}
+use borrow.Author.Needs.{needs}
+use lib.ListN.{length}
+use denote.Ref.{now}
+use Rattle.decimal.specs.Decimal.{digits}
+use Rattle.decimal.specs.Written.{Wrote, wrote-byte}
+use Rattle.printing.specs.RefusalLine.{digits-short}
+use Rattle.printing.proofs.put_number.Statement.{statement}
+use Rattle.printing.proofs.put_number.Tie as tie
+
+short : (c : tie.Start) → length (digits (c .args .n)) ≤ 20
+short c = let f = c .fits .n in digits-short (c .args .n) (omega (arith, f .fits))
+
+put-digits-requires : tie.Need-put-digits-requires
+put-digits-requires c κs = let s = c .before .before in omega (arith, short s, s .pre)
+
+slice-write-line : tie.Need-slice-write-line
+slice-write-line c = let s = c .before .before .before .before .before in let d = c .before .before .put-digits in omega (arith, short s, s .pre, d .ensures .end, d .kept .0)
+
+add-result : tie.Need-add-result
+add-result c = let s = c .before .before .before .before .before in let d = c .before .before .put-digits in let e = d .ensures .end in let h = short s in let p = s .pre in let g = s .good in search needs
+
+same-length : tie.Need-same-length
+same-length c = search needs
+
+returns : tie.Need-returns
+returns c =
+    let s = c .before .before .before .before .before in
+    let d = c .before .before .put-digits in
+    (wrote-byte (s .args .after) (d .ensures) (omega (arith, short s, s .pre)), omega (arith, short s, d .ensures .end))
+
+pub put-number-spec : {M : Type 1} → statement M
+put-number-spec =
+    tie.close (tie.spec put-digits-requires slice-write-line add-result same-length returns)

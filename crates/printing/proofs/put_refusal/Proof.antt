@@ -1,0 +1,39 @@
+use mathlib.Core.Path.{_≡_, sym, ap, _∙_, subst}
+use mathlib.Core.List.{List, [], _∷_, _++_}
+use Prim.Native.Nat.{ℕ, _+_, _≤_}
+use native.Mathlib.Omega.{arith}
+use borrow.Author.Needs.{needs}
+use lib.ListN.{length, length-append}
+use denote.Ref.{now}
+use Rattle.decimal.specs.Decimal.{digits}
+use Rattle.decimal.specs.Written.{Wrote, wrote-append}
+use Rattle.printing.specs.RefusalLine.{digits-short, refusal-parts}
+use Rattle.printing.proofs.put_refusal.Statement.{statement}
+use Rattle.printing.proofs.put_refusal.Tie as tie
+
+put-mark-requires : tie.Need-put-mark-requires
+put-mark-requires c κs = search needs
+
+put-number-requires : tie.Need-put-number-requires
+put-number-requires c κs = search needs
+
+put-number-requires-2 : tie.Need-put-number-requires-2
+put-number-requires-2 c κs = search needs
+
+same-length : tie.Need-same-length
+same-length c = search needs
+
+returns : tie.Need-returns
+returns c =
+    let s = c .before .before .before .before .before .before .before .before .before .before .before .before .before in
+    let m = c .before .before .before .before .before .before .before .before .before .before .put-mark in
+    let n = c .before .before .before .before .before .before .put-number in
+    let p = c .before .before .put-number2 in
+    let first = wrote-append (m .ensures) (n .ensures .0) (let l = s .pre in omega arith) in
+    let whole = wrote-append first (p .ensures .0) (let l = s .pre in omega (arith, first .end, n .ensures .1, m .ensures .end)) in
+    (rw (refusal-parts (s .args .number) (s .args .place)) at whole, omega (arith, p .ensures .1, n .ensures .1, m .ensures .end))
+
+pub put-refusal-spec : {M : Type 1} → statement M
+put-refusal-spec =
+    tie.close
+    (tie.spec put-mark-requires put-number-requires put-number-requires-2 same-length returns)

@@ -1,0 +1,9 @@
+pub mod Called
+pub mod Sizes
+pub mod Lengths
+pub mod Seen
+pub mod Progress
+pub mod Rows
+pub mod Refused
+pub mod Listing
+pub mod AnyRun

@@ -1,0 +1,54 @@
+-- `runs::run` meets its contract: what is lent fits and `run_sized` says the rest, or nothing is done.
+use mathlib.Core.Path.{_≡_, refl, sym, _∙_}
+use Rattle.runs.proofs.Sizes.{never, lent}
+use borrow.Author.Needs.{needs}
+use Rattle.runs.proofs.run.Statement.{statement}
+use Rattle.runs.proofs.run.Tie as tie
+
+all-sized-requires : tie.Need-all-sized-requires
+all-sized-requires c κs = search needs
+
+run-sized-requires : tie.Need-run-sized-requires
+run-sized-requires c κs = lent (sym (c .before .before .before .before .before .before .all-sized .ensures) ∙ c .before .before .before .before .before .if1 .taken)
+
+same-length : tie.Need-same-length
+same-length c = search needs
+
+same-length-2 : tie.Need-same-length-2
+same-length-2 c = search needs
+
+same-length-3 : tie.Need-same-length-3
+same-length-3 c = search needs
+
+same-length-4 : tie.Need-same-length-4
+same-length-4 c = search needs
+
+same-length-5 : tie.Need-same-length-5
+same-length-5 c = search needs
+
+returns : tie.Need-returns
+returns c =
+    let recorded = c .before .before .before .before .before .before .before .before .before .before .run-sized .ensures in (
+      sym (c .before .before .before .before .before .before .before .before .before .before .before .before .before .before .before .before .if1 .taken) ∙ c .before .before .before .before .before .before .before .before .before .before .before .before .before .before .before .before .before .all-sized .ensures,
+      (λ e. recorded .0, (λ e. recorded .1 .0, (λ e. recorded .1 .1 .0, (λ e. recorded .1 .1 .1, λ e. absurd (never (sym e)))))),
+    )
+
+returns-2 : tie.Need-returns-2
+returns-2 c = (
+  sym (c .if1 .left) ∙ c .before .all-sized .ensures,
+  (λ e. absurd (never e), (λ e. absurd (never e), (λ e. absurd (never e), (λ e. absurd (never e), λ e. (refl, refl, refl, refl, refl))))),
+)
+
+pub run-spec : {M : Type 1} → statement M
+run-spec =
+    tie.close
+    (tie.spec
+    all-sized-requires
+    run-sized-requires
+    same-length
+    same-length-2
+    same-length-3
+    same-length-4
+    same-length-5
+    returns
+    returns-2)

@@ -1,0 +1,6 @@
+pub mod Rows
+pub mod NotBelow
+pub mod Parts
+pub mod Inside
+pub mod Stretches
+pub mod Whole

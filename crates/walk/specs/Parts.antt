@@ -1,0 +1,102 @@
+-- The rows that fit, by cases, of two lists one behind another, and where they stop.
+use mathlib.Core.Path.{_≡_, refl, sym, ap, ap₂, _∙_}
+use mathlib.Core.List.{List, [], _∷_, _++_, append-assoc, List·Memᴰ, List·Memᴰ·head, List·Memᴰ·tail}
+use Prim.Native.Nat.{ℕ, suc, _-_, _≤_, _<_}
+use native.Mathlib.Omega.{arith}
+use native.Mathlib.Decide.{decLe}
+use native.Mathlib.Nat.{sub-zero}
+use borrow.Author.Tests.{le-leb, lt-leb}
+use lib.ListN.{length, length-append}
+use Rattle.road.specs.Base.{joined}
+use Rattle.theorems.specs.Ascends.{Ascends, empty, step}
+use Rattle.walk.specs.Rows.{notBelow, Part, before, nothing, rowsThatFit}
+use Rattle.walk.specs.NotBelow.{kept, dropped, from-all, ascends-low}
+
+pub before-before : (t u : List ℕ) (p : Part) → before t (before u p) ≡ before (t ++ u) p
+before-before t u p = ap (λ (x : List ℕ). record { text = x; left = p .left }) (sym (append-assoc t u (p .text)))
+
+module _ (line : ℕ → List ℕ) where
+  pub fit-none : (room : ℕ) → rowsThatFit line room [] ≡ nothing []
+  unfolding rowsThatFit
+  fit-none room = refl
+
+  pub fit-row : (room s : ℕ) (ss : List ℕ) → 96 ≤ room → rowsThatFit line room (s ∷ ss) ≡ before (line s) (rowsThatFit line (room - length (line s)) ss)
+  unfolding rowsThatFit
+  fit-row room s ss h = rw (le-leb 96 room h, rowsThatFit)
+
+  pub fit-full : (room : ℕ) (l : List ℕ) → room < 96 → rowsThatFit line room l ≡ nothing l
+  unfolding rowsThatFit
+  fit-full room [] h = refl
+  fit-full room (s ∷ ss) h = rw (lt-leb 96 room h, rowsThatFit)
+
+  -- two lists one behind another
+  pub fit-append : (room : ℕ) (l m : List ℕ)
+      → (let p = rowsThatFit line room l in rowsThatFit line room (l ++ m) ≡ before (p .text) (rowsThatFit line (room - length (p .text)) (p .left ++ m)))
+  fit-append room [] m = rw (fit-none room, sub-zero room)
+  fit-append room (s ∷ ss) m = go (decLe 96 room) (fit-append (room - length (line s)) ss m)
+    where
+      go : Dec (96 ≤ room) → (let p = rowsThatFit line (room - length (line s)) ss in rowsThatFit line (room - length (line s)) (ss ++ m) ≡ before (p .text) (rowsThatFit line (room - length (line s) - length (p .text)) (p .left ++ m)))
+          → (let p = rowsThatFit line room (s ∷ ss) in rowsThatFit line room (s ∷ (ss ++ m)) ≡ before (p .text) (rowsThatFit line (room - length (p .text)) (p .left ++ m)))
+      go (yes h) ih =
+          let p = rowsThatFit line (room - length (line s)) ss in
+          let e : room - length (line s) - length (p .text) ≡ room - length (line s ++ p .text) = omega (arith, length-append (line s) (p .text)) in
+          rw (fit-row room s ss h, fit-row room s (ss ++ m) h, ← e) (ap (before (line s)) ih ∙ before-before (line s) (p .text) (rowsThatFit line (room - length (line s) - length (p .text)) (p .left ++ m)))
+      go (no h) ih = rw (fit-full room (s ∷ ss) (omega arith), sub-zero room)
+
+  -- all rows of the list, one behind another
+  pub fit-whole : (room : ℕ) (l : List ℕ) → (let p = rowsThatFit line room l in joined line l ≡ p .text ++ joined line (p .left))
+  unfolding joined
+  fit-whole room [] = rw (fit-none room)
+  fit-whole room (s ∷ ss) = go (decLe 96 room) (fit-whole (room - length (line s)) ss)
+    where
+      go : Dec (96 ≤ room) → (let p = rowsThatFit line (room - length (line s)) ss in joined line ss ≡ p .text ++ joined line (p .left)) → (let p = rowsThatFit line room (s ∷ ss) in joined line (s ∷ ss) ≡ p .text ++ joined line (p .left))
+      go (yes h) ih =
+          let p = rowsThatFit line (room - length (line s)) ss in
+          rw (fit-row room s ss h) (ap (λ (t : List ℕ). line s ++ t) ih ∙ sym (append-assoc (line s) (p .text) (joined line (p .left))))
+      go (no h) ih = rw (fit-full room (s ∷ ss) (omega arith))
+
+  -- lines of at most 96 bytes fit
+  pub fit-room : (room : ℕ) (l : List ℕ) → ((z : ℕ) → List·Memᴰ z l → length (line z) ≤ 96) → length (rowsThatFit line room l .text) ≤ room
+  fit-room room [] short = rw (fit-none room) (omega arith)
+  fit-room room (s ∷ ss) short = go (decLe 96 room) (fit-room (room - length (line s)) ss (λ z m. short z (List·Memᴰ·tail m)))
+    where
+      go : Dec (96 ≤ room) → length (rowsThatFit line (room - length (line s)) ss .text) ≤ room - length (line s) → length (rowsThatFit line room (s ∷ ss) .text) ≤ room
+      go (yes h) ih = rw (fit-row room s ss h) (omega (arith, length-append (line s) (rowsThatFit line (room - length (line s)) ss .text), short s (List·Memᴰ·head refl)))
+      go (no h) ih = rw (fit-full room (s ∷ ss) (omega arith)) (omega arith)
+
+-- lines that agree at the stations
+pub fit-same : (line line′ : ℕ → List ℕ) (room : ℕ) (l : List ℕ) → ((z : ℕ) → List·Memᴰ z l → line z ≡ line′ z) → rowsThatFit line room l ≡ rowsThatFit line′ room l
+unfolding rowsThatFit
+fit-same line line′ room [] same = refl
+fit-same line line′ room (s ∷ ss) same = go (decLe 96 room) (fit-same line line′ (room - length (line s)) ss (λ z m. same z (List·Memᴰ·tail m)))
+  where
+    e : line s ≡ line′ s
+    e = same s (List·Memᴰ·head refl)
+
+    go : Dec (96 ≤ room) → rowsThatFit line (room - length (line s)) ss ≡ rowsThatFit line′ (room - length (line s)) ss → rowsThatFit line room (s ∷ ss) ≡ rowsThatFit line′ room (s ∷ ss)
+    go (yes h) ih = fit-row line room s ss h ∙ ap₂ (λ (t : List ℕ) (p : Part). before t p) e (ih ∙ ap (λ (t : List ℕ). rowsThatFit line′ (room - length t) ss) e) ∙ sym (fit-row line′ room s ss h)
+    go (no h) ih = fit-full line room (s ∷ ss) (omega arith) ∙ sym (fit-full line′ room (s ∷ ss) (omega arith))
+
+-- the first of a list, or e where there is none
+abbrev pub firstOr : ℕ → List ℕ → ℕ
+firstOr e [] = e
+firstOr e (s ∷ _) = s
+
+-- of stations from k to below e: where the rows stop, what is left is what is not below that
+pub record Stopped (k e : ℕ) (l left : List ℕ) : Type 0 where
+  pub low : k ≤ firstOr e left
+  pub high : firstOr e left ≤ e
+  pub at : firstOr e left < e → List·Memᴰ (firstOr e left) l
+  pub rest : left ≡ notBelow (firstOr e left) l
+
+module _ (line : ℕ → List ℕ) (e : ℕ) where
+  pub fit-stops : (room : ℕ) {k : ℕ} {l : List ℕ} → Ascends k l → k ≤ e → ((z : ℕ) → List·Memᴰ z l → z < e) → Stopped k e l (rowsThatFit line room l .left)
+  unfolding notBelow
+  fit-stops room empty h upto = rw (fit-none line room) (record { low = h; high = omega arith; at = λ l. absurd (omega arith); rest = refl })
+  fit-stops room {k} (step {x = x} {xs = xs} b a) h upto = go (decLe 96 room) (fit-stops (room - length (line x)) a (upto x (List·Memᴰ·head refl)) (λ z m. upto z (List·Memᴰ·tail m)))
+    where
+      go : Dec (96 ≤ room) → Stopped (suc x) e xs (rowsThatFit line (room - length (line x)) xs .left) → Stopped k e (x ∷ xs) (rowsThatFit line room (x ∷ xs) .left)
+      go (yes r) i = let l = i .low in rw (fit-row line room x xs r) (record { low = omega arith; high = i .high; at = λ j. List·Memᴰ·tail (i .at j); rest = i .rest ∙ sym (dropped _ x xs l) })
+      go (no r) i =
+          let w : notBelow x xs ≡ xs = from-all x xs (λ z m. let l = ascends-low a m in omega arith) in
+          rw (fit-full line room (x ∷ xs) (omega arith)) (record { low = b; high = (let u = upto x (List·Memᴰ·head refl) in omega arith); at = λ j. List·Memᴰ·head refl; rest = sym (kept x x xs (omega arith) ∙ ap (λ (l : List ℕ). x ∷ l) w) })
