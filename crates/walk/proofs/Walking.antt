@@ -16,8 +16,7 @@ use Rattle.theorems.specs.Guaranteed.{Guaranteed}
 use Rattle.theorems.specs.Fits.{line-fits}
 use Rattle.stretch.specs.Stretch.{lineIn}
 use Rattle.stretch.specs.Line.{line-shows}
-use Rattle.places.specs.Stations.{multiple-listed}
-use Rattle.places.specs.View.{Viewed}
+use Rattle.places.specs.View.{Viewed, multiple-listed}
 use Rattle.places.specs.declared.View.{View}
 use Rattle.walk.specs.Rows.{notBelow, Part, before, rowsThatFit}
 use Rattle.walk.specs.NotBelow.{from-has, from-member, from-all, from-append, from-from, from-ascends, ascends-low}
