@@ -17,11 +17,7 @@ fn accepted(file: &[u8]) -> u64
 
 // The lowest bit of a number's first byte, changed.
 fn other(b: u8) -> u8 {
-    if b % 2 == 0 {
-        b + 1
-    } else {
-        b - 1
-    }
+    if b % 2 == 0 { b + 1 } else { b - 1 }
 }
 
 // So many calls; the step's first byte is the file's third.

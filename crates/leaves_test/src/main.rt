@@ -4,7 +4,8 @@ use number::Number;
 // A number on a line of its own.
 fn show(v: i64) {
     let mut line = [0u8; 32];
-    let end = decimal::put_field(&mut line, 0, v, 10);
+    let pairs = decimal::pairs();
+    let end = decimal::put_field(&pairs, &mut line, 0, v, 10);
     io::write_all(1, &line[..end]);
 }
 

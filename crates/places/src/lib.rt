@@ -121,17 +121,18 @@ fn least(v: u64, w: u64) -> u64
 }
 
 // ---- the three cursors, which only move forward
+// A list stands in a variable before it is indexed: an index into the alignment itself would copy all of it at each call.
 
 // The last element that begins at or before x.
 fn element_on(a: Alignment, p: ElementPlace, x: u64) -> ElementPlace
     requires { ⌜ Ready a ⌝ ∗ ⌜ ElementReached (roadIn a) p x ⌝ }
     ensures { λ r. ⌜ ElementFound (roadIn a) r x ⌝ }
 {
-    let n = a.element_count;
+    let elements = a.elements;
     let mut i = p.index;
     let mut begin = p.begin;
-    while i + 1 < n {
-        let e = a.elements[i];
+    while i + 1 < a.element_count {
+        let e = elements[i];
         let end = begin + e.length as u64;
         if x < end {
             break;
@@ -147,11 +148,11 @@ fn point_on(a: Alignment, point: usize, x: u64) -> usize
     requires { ⌜ Ready a ⌝ ∗ ⌜ Reached (pointStation (roadIn a)) (length (roadIn a .crossfalls) - 1) x point ⌝ }
     ensures { λ r. ⌜ Begun (pointStation (roadIn a)) (length (roadIn a .crossfalls) - 1) x r ⌝ }
 {
-    let n = a.crossfall_count;
+    let crossfalls = a.crossfalls;
     let mut i = point;
-    while i + 2 < n {
+    while i + 2 < a.crossfall_count {
         let j = i + 1;
-        let p = a.crossfalls[j];
+        let p = crossfalls[j];
         if x < p.station as u64 {
             break;
         }
@@ -180,11 +181,11 @@ fn tangent_on(a: Alignment, p: TangentPlace, x: u64) -> TangentPlace
     requires { ⌜ Ready a ⌝ ∗ ⌜ TangentReached (roadIn a) p x ⌝ }
     ensures { λ r. ⌜ TangentFound (roadIn a) r x ⌝ }
 {
-    let n = a.tangent_count;
+    let tangents = a.tangents;
     let mut place = p;
-    while place.index + 1 < n {
+    while place.index + 1 < a.tangent_count {
         let i = place.index;
-        let t = a.tangents[i];
+        let t = tangents[i];
         if x < place.begin + t.length as u64 {
             break;
         }
@@ -303,7 +304,8 @@ fn piece_on(a: Alignment, p: TangentPlace, x: u64) -> Piece
     ensures { λ r. ⌜ PieceAt (roadIn a) r x ⌝ }
 {
     let i = p.index;
-    let t = a.tangents[i];
+    let tangents = a.tangents;
+    let t = tangents[i];
     let begin = p.begin;
     if x < begin + p.half_before as u64 {
         return curve_before(p, t);
@@ -313,7 +315,7 @@ fn piece_on(a: Alignment, p: TangentPlace, x: u64) -> Piece
         return straight_part(p, t);
     }
     let j = i + 1;
-    let next = a.tangents[j];
+    let next = tangents[j];
     curve_after(p, t, next)
 }
 
@@ -341,9 +343,10 @@ fn sides_on(a: Alignment, k: usize) -> Sides
     requires { ⌜ Ready a ⌝ ∗ ⌜ suc k < length (roadIn a .crossfalls) ⌝ }
     ensures { λ r. ⌜ r ≡ sidesOf (pointOf (roadIn a) k) (pointOf (roadIn a) (suc k)) ⌝ }
 {
-    let c = a.crossfalls[k];
+    let crossfalls = a.crossfalls;
+    let c = crossfalls[k];
     let j = k + 1;
-    let d = a.crossfalls[j];
+    let d = crossfalls[j];
     sides_of(c, d)
 }
 
@@ -392,7 +395,8 @@ fn bend_on(a: Alignment, i: usize) -> Bend
     requires { ⌜ Ready a ⌝ ∗ ⌜ i < length (roadIn a .plan) ⌝ }
     ensures { λ r. ⌜ Curved (roadIn a) i r ⌝ }
 {
-    let e = a.elements[i];
+    let elements = a.elements;
+    let e = elements[i];
     if e.kind == 1 {
         return arc_bend(e.radius);
     }
@@ -404,12 +408,12 @@ fn bend_on(a: Alignment, i: usize) -> Bend
         };
     }
     let h = i - 1;
-    let before = a.elements[h];
+    let before = elements[h];
     if before.kind == 1 {
         return out_bend(before.radius, e.length);
     }
     let j = i + 1;
-    let next = a.elements[j];
+    let next = elements[j];
     in_bend(next.radius, e.length)
 }
 
@@ -421,13 +425,15 @@ fn joint_after(a: Alignment, p: ElementPlace, k: usize, end: u64, x: u64) -> u64
     ensures { λ r. ⌜ r ≡ jointOf (elementStart (roadIn a) (suc (p .index))) end (pointOf (roadIn a) (suc k) .station) x ⌝ }
 {
     let i = p.index;
-    let e = a.elements[i];
+    let elements = a.elements;
+    let e = elements[i];
     let stop = p.begin + e.length as u64;
     if stop <= x {
         return x + 1;
     }
     let j = k + 1;
-    let c = a.crossfalls[j];
+    let crossfalls = a.crossfalls;
+    let c = crossfalls[j];
     least(end, least(stop, c.station as u64))
 }
 

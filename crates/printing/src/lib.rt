@@ -4,16 +4,17 @@ ghost use mathlib.Core.List.{[], _∷_, _++_};
 ghost use Prim.Native.Nat.{_+_, _≤_};
 ghost use lib.ListN.{length};
 ghost use Rattle.decimal.specs.Decimal.{digits};
+ghost use Rattle.decimal.specs.Pairs.{pairTable};
 ghost use Rattle.decimal.specs.Written.{Wrote};
 ghost use Rattle.road.specs.Listing.{refusalLine};
 use listing::ListAnswer;
 
 // Writes a number and the byte `after` behind it, from `at` on, and returns the place after that.
-fn put_number(line: &mut [u8], at: usize, n: u64, after: u8) -> usize
-    requires { ⌜ at + 21 ≤ length (now line) ⌝ }
+fn put_number(pairs: &[u8; 200], line: &mut [u8], at: usize, n: u64, after: u8) -> usize
+    requires { ⌜ now pairs ≡ pairTable ⌝ ∗ ⌜ at + 21 ≤ length (now line) ⌝ }
     ensures { λ r. ⌜ Wrote (now (line .entry)) (now (line .exit)) at (digits n ++ (after ∷ [])) r ⌝ ∗ ⌜ r ≤ at + 21 ⌝ }
 {
-    let end = decimal::put_digits(line, at, n);
+    let end = decimal::put_digits(pairs, line, at, n);
     line[end] = after;
     end + 1
 }
@@ -33,9 +34,10 @@ pub fn put_refusal(line: &mut [u8], number: u32, place: usize) -> usize
     requires { ⌜ 64 ≤ length (now line) ⌝ }
     ensures { λ r. ⌜ Wrote (now (line .entry)) (now (line .exit)) 0 (refusalLine number place) r ⌝ ∗ ⌜ r ≤ 64 ⌝ }
 {
+    let pairs = decimal::pairs();
     let start = put_mark(line);
-    let middle = put_number(line, start, number as u64, 32);
-    put_number(line, middle, place as u64, 10)
+    let middle = put_number(&pairs, line, start, number as u64, 32);
+    put_number(&pairs, line, middle, place as u64, 10)
 }
 
 // Writes a refusal's line, and answers whether all of it was written.

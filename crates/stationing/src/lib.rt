@@ -23,7 +23,8 @@ fn put_row(a: Alignment, station: u64, line: &mut [u8]) -> usize
     let limits = limits::limits_of(a.class, a.terrain);
     let view = places::view_at(a, places::start(a), station, limits.lane);
     let stretch = view.stretch;
-    stretch::put_line(stretch, station, line, 0)
+    let pairs = decimal::pairs();
+    stretch::put_line(&pairs, stretch, station, line, 0)
 }
 
 // The row of a station of an accepted alignment; refusals 20 and 21.

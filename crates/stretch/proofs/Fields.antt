@@ -9,7 +9,7 @@ use mir.Syntax.{w64}
 use mir.Val.{SFits, ofZ}
 use Rattle.integers.specs.Bridge.{int, nat, _⊕_, _⊖_, _⊗_, le!, lt!, abs!, abs?, abs-add}
 use Rattle.integers.specs.Fraction.{_÷_, whole}
-use Rattle.integers.specs.Rounding.{round, rounded, nearest-is}
+use Rattle.integers.specs.Rounding.{round, rounded}
 use Rattle.integers.specs.Width.{fits64, above-zero}
 use Rattle.road.specs.Exact.{Side, left, right}
 use Rattle.stretch.specs.Stretch.{Sound, past, onTangent, heightIn, gradeIn, crossfallIn, dropIn, curvatureIn, sideStart, sideChange, numbersIn}
@@ -19,6 +19,7 @@ use Rattle.stretch.specs.Short.{height-size, crossfall-size, drop-size}
 use Rattle.stretch.specs.declared.Lane.{Lane}
 use Rattle.stretch.specs.Cases.{height-on-tangent, grade-on-tangent, height-in-curve, grade-in-curve}
 use Rattle.stretch.specs.declared.Stretch.{Stretch}
+use Rattle.stretch.proofs.Laws.{is-zero, round-whole, round-multiple}
 
 -- a place from the distance, and the distance from the place
 distance-small : (from : ℤ) (x k : ℕ) → natAbs from ≤ k → natAbs (past from x) ≤ x + k
@@ -35,10 +36,6 @@ bits-zero (negsuc n) l e = absurd (l .le)
 bits-other : (half : ℤ) → pos 0 ≤ℤ half → (ofZ w64 half ≡ 0 → ⊥) → pos 0 <ℤ half
 bits-other (pos n) l e = lt! (nat 0) (nat n) (let h : n ≡ 0 → ⊥ = e in omega arith)
 bits-other (negsuc n) l e = absurd (l .le)
-
--- a whole number rounds to itself
-round-whole : (a : ℤ) → a ≡ round a 1
-round-whole a = nearest-is (record { above = lt! (nat 2 ⊗ int a ⊖ nat 1) (nat 2 ⊗ int a) (omega arith); upto = le! (nat 2 ⊗ int a) (nat 2 ⊗ int a ⊕ nat 1) (omega arith) })
 
 module _ {s : Stretch} {x : ℕ} (p : Sound s x) where
   pub from-fits : SFits w64 (s .from)
@@ -155,6 +152,10 @@ module _ {s : Stretch} {x : ℕ} (p : Sound s x) where
       pub curvature-answer : {r : ℤ} → r ≡ round over (natAbs (s .«bend_span»)) → r ≡ rounded (curvatureIn s x)
       unfolding rounded curvatureIn
       curvature-answer e = e ∙ ap (λ (n : ℤ). round n (natAbs (s .«bend_span»))) (e-over ∙ ap (λ (u : ℤ). s .bend +ℤ s .«bend_change» *ℤ u) e-u)
+
+      pub no-curvature : SFits w64 over → ofZ w64 over ≡ 0 → pos 0 ≡ rounded (curvatureIn s x)
+      no-curvature f e = let k = natAbs (s .«bend_span») in
+          curvature-answer (round-multiple k (pos 0) (above-zero (s .«bend_span») (p .bend-low)) (is-zero f e ∙ ap pos (let h : 0 ≡ k * 0 = omega arith in h)))
 
   -- ---- the two sides
   module _ {u : ℤ} (e-u : u ≡ past (s .point) x) (d : Side) where

@@ -1,15 +1,18 @@
 -- Sizes of sums and products, and what fits 64 bits.
-use mathlib.Core.Path.{_≡_, ap, ap₂, _∙_}
+use mathlib.Core.Path.{_≡_, refl, sym, ap, ap₂, _∙_}
+use mathlib.Core.List.{[], _∷_}
 use Prim.Native.Nat.{ℕ, _+_, _*_, _≤_, _<_}
 use native.Mathlib.Omega.{arith}
 use native.Mathlib.Nat.{mul-le-mul, mul-le-mul-left, div-le-self}
 use lib.IntN.{ℤ, pos, negsuc, _+ℤ_, _*ℤ_, *ℤ-comm, natAbs}
 use lib.Signed.{_<ℤ_}
 use mir.Syntax.{w64}
-use mir.Val.{SFits}
-use Rattle.integers.specs.Bridge.{nat, _⊗_, lt!, abs-add, abs-mul, abs-product}
+use mir.Val.{SFits, ofZ, toZ}
+use mir.Facts.{toZ-ofZ}
+use Rattle.integers.specs.Bridge.{int, nat, _⊕_, _⊖_, _⊗_, eq!, le!, lt!, abs-add, abs-mul, abs-product}
+use Rattle.integers.specs.Ring.{_:*_, ring, v0, v1, v2}
 use Rattle.integers.specs.Fraction.{_÷_}
-use Rattle.integers.specs.Rounding.{floor, round, rounded}
+use Rattle.integers.specs.Rounding.{floor, round, rounded, round-scale, nearest-is}
 use Rattle.integers.specs.Width.{fits64, divisor, above-zero}
 use Rattle.stretch.specs.Sizes.{InCurve, OfLane, OnSide, laneOf}
 use Rattle.stretch.specs.declared.Lane.{Lane}
@@ -23,6 +26,17 @@ pub floor-small : (n : ℤ) (d : ℕ) → natAbs (floor n d) ≤ natAbs n
 unfolding floor
 floor-small (pos a) d = div-le-self a d
 floor-small (negsuc a) d = omega (arith, div-le-self a d)
+
+-- a number that the machine finds to be 0
+pub is-zero : {a : ℤ} → SFits w64 a → ofZ w64 a ≡ 0 → a ≡ pos 0
+is-zero {a} f e = sym (toZ-ofZ f) ∙ ap (toZ w64) e
+
+-- a whole number rounds to itself, over any denominator
+pub round-whole : (a : ℤ) → a ≡ round a 1
+round-whole a = nearest-is (record { above = lt! (nat 2 ⊗ int a ⊖ nat 1) (nat 2 ⊗ int a) (omega arith); upto = le! (nat 2 ⊗ int a) (nat 2 ⊗ int a ⊕ nat 1) (omega arith) })
+
+pub round-multiple : {n : ℤ} (k : ℕ) (a : ℤ) → 0 < k → n ≡ pos k *ℤ a → a ≡ round n k
+round-multiple {n} k a p e = round-whole a ∙ round-scale k a 1 p (omega arith) ∙ ap₂ round (sym e) (let h : k * 1 ≡ k = omega arith in h)
 
 -- what `along` computes
 module _ (start slope distance : ℤ) (h : natAbs start + natAbs slope * natAbs distance < 9223372036854775808) where
@@ -106,3 +120,25 @@ module _ {start change span width u : ℤ} (p : OnSide start change span width u
     pub side-answer : {c d : ℤ} → c ≡ round over (natAbs span) → d ≡ rounded ((over *ℤ width) ÷ (natAbs span * 1000000)) → _≡_ {A = Lane} (record { crossfall = c; drop = d }) (laneOf start change span width u)
     unfolding laneOf rounded
     side-answer {c} {d} e f = rw (e, f, e-over)
+
+  -- a crossfall that stays as it is
+  module _ (even : change ≡ pos 0) where
+    even-over : start *ℤ span +ℤ change *ℤ u ≡ pos (natAbs span) *ℤ start
+    even-over =
+        ap₂ (λ (c s : ℤ). start *ℤ s +ℤ c *ℤ u) even (divisor span (p .span-low))
+        ∙ eq! (int start ⊗ nat (natAbs span) ⊕ nat 0 ⊗ int u) (nat (natAbs span) ⊗ int start) (omega arith)
+
+    even-crossfall : start ≡ round (start *ℤ span +ℤ change *ℤ u) (natAbs span)
+    even-crossfall = round-multiple (natAbs span) start (above-zero span (p .span-low)) even-over
+
+    even-drop : round (start *ℤ width) 1000000 ≡ round ((start *ℤ span +ℤ change *ℤ u) *ℤ width) (natAbs span * 1000000)
+    even-drop = rw even-over
+        (round-scale (natAbs span) (start *ℤ width) 1000000 (above-zero span (p .span-low)) (omega arith)
+        ∙ ap (λ (n : ℤ). round n (natAbs span * 1000000)) (ring (pos (natAbs span) ∷ start ∷ width ∷ []) (v0 :* (v1 :* v2)) ((v0 :* v1) :* v2) tt))
+
+    pub even-answer : {d : ℤ} → d ≡ round (start *ℤ width) 1000000 → _≡_ {A = Lane} (record { crossfall = start; drop = d }) (laneOf start change span width u)
+    unfolding laneOf rounded
+    even-answer e = side-answer refl even-crossfall (e ∙ even-drop)
+
+  pub even-fits : SFits w64 (start *ℤ width)
+  even-fits = fits64 (start *ℤ width) (let h = abs-product start width (p .start-size) (p .width-size) in omega arith)

@@ -4,6 +4,7 @@ ghost use lib.IntN.{pos, _+ℤ_, _*ℤ_, natAbs};
 ghost use lib.ListN.{length};
 ghost use Rattle.integers.specs.Fraction.{_÷_};
 ghost use Rattle.integers.specs.Rounding.{rounded};
+ghost use Rattle.decimal.specs.Pairs.{pairTable};
 ghost use Rattle.decimal.specs.Written.{Wrote};
 ghost use Rattle.stretch.specs.Stretch.{Sound, past, heightIn, gradeIn, curvatureIn, numbersIn, lineIn};
 ghost use Rattle.stretch.specs.Line.{four};
@@ -121,10 +122,13 @@ pub fn curvature_at(s: Stretch, x: u64) -> i64
     requires { ⌜ Sound s x ⌝ }
     ensures { λ r. ⌜ r ≡ rounded (curvatureIn s x) ⌝ }
 {
-    integers::round_div(
-        along(s.bend, s.bend_change, distance(s.element, x)),
-        s.bend_span,
-    )
+    let over = along(s.bend, s.bend_change, distance(s.element, x));
+    // a straight needs no division
+    if over == 0 {
+        0
+    } else {
+        integers::round_div(over, s.bend_span)
+    }
 }
 
 // The drop of an edge, from the exact crossfall over / span.
@@ -140,6 +144,14 @@ fn lane_at(start: i64, change: i64, span: i64, width: i64, distance: i64) -> Lan
     requires { ⌜ OnSide start change span width distance ⌝ }
     ensures { λ r. ⌜ r ≡ laneOf start change span width distance ⌝ }
 {
+    // an even crossfall needs no division by the span
+    if change == 0 {
+        let drop = integers::round_div(start * width, 1000000);
+        return Lane {
+            crossfall: start,
+            drop: drop,
+        };
+    }
     let over = along(start * span, change, distance);
     let crossfall = integers::round_div(over, span);
     let drop = drop_of(over, span, width);
@@ -171,24 +183,34 @@ pub fn numbers_at(s: Stretch, x: u64) -> Numbers
 }
 
 // Writes four numbers from `at` on, a space after each but the last, which has the byte `after` behind it, and returns the place after that.
-fn put_four(out: &mut [u8], at: usize, a: i64, b: i64, c: i64, d: i64, after: u8) -> usize
-    requires { ⌜ at + length (four a b c d after) ≤ length (now out) ⌝ }
+fn put_four(
+    pairs: &[u8; 200],
+    out: &mut [u8],
+    at: usize,
+    a: i64,
+    b: i64,
+    c: i64,
+    d: i64,
+    after: u8,
+) -> usize
+    requires { ⌜ now pairs ≡ pairTable ⌝ ∗ ⌜ at + length (four a b c d after) ≤ length (now out) ⌝ }
     ensures { λ r. ⌜ Wrote (now (out .entry)) (now (out .exit)) at (four a b c d after) r ⌝ }
 {
-    let second = decimal::put_field(out, at, a, 32);
-    let third = decimal::put_field(out, second, b, 32);
-    let fourth = decimal::put_field(out, third, c, 32);
-    decimal::put_field(out, fourth, d, after)
+    let second = decimal::put_field(pairs, out, at, a, 32);
+    let third = decimal::put_field(pairs, out, second, b, 32);
+    let fourth = decimal::put_field(pairs, out, third, c, 32);
+    decimal::put_field(pairs, out, fourth, d, after)
 }
 
 // Writes the line of a station from `at` on, and returns the place after it.
-pub fn put_line(s: Stretch, x: u64, out: &mut [u8], at: usize) -> usize
-    requires { ⌜ Sound s x ⌝ ∗ ⌜ at + 96 ≤ length (now out) ⌝ }
+pub fn put_line(pairs: &[u8; 200], s: Stretch, x: u64, out: &mut [u8], at: usize) -> usize
+    requires { ⌜ now pairs ≡ pairTable ⌝ ∗ ⌜ Sound s x ⌝ ∗ ⌜ at + 96 ≤ length (now out) ⌝ }
     ensures { λ r. ⌜ Wrote (now (out .entry)) (now (out .exit)) at (lineIn s x) r ⌝ ∗ ⌜ r ≤ at + 96 ⌝ }
 {
     let n = numbers_at(s, x);
-    let half = put_four(out, at, n.station, n.height, n.grade, n.left, 32);
+    let half = put_four(pairs, out, at, n.station, n.height, n.grade, n.left, 32);
     put_four(
+        pairs,
         out,
         half,
         n.right,

@@ -3,6 +3,7 @@ ghost use mathlib.Core.Path.{_≡_};
 ghost use mathlib.Core.List.{List·Memᴰ};
 ghost use Prim.Native.Nat.{ℕ, _-_, _≤_, _<_};
 ghost use lib.ListN.{length};
+ghost use Rattle.decimal.specs.Pairs.{pairTable};
 ghost use Rattle.road.specs.Limits.{limits};
 ghost use Rattle.road.specs.Exact.{total};
 ghost use Rattle.road.specs.Listed.{listed};
@@ -35,8 +36,16 @@ pub struct Stop {
 }
 
 // The rows of x and of the multiples of step up to the joint, as long as at least 96 bytes are left.
-fn put_stretch(s: Stretch, x: u64, joint: u64, step: u64, out: &mut [u8], at: usize) -> Stop
-    requires { ⌜ ((y : ℕ) → x ≤ y → y < joint → Sound s y) ⌝ ∗ ⌜ Stepped step x joint ⌝ ∗ ⌜ at ≤ length (now out) ⌝ }
+fn put_stretch(
+    pairs: &[u8; 200],
+    s: Stretch,
+    x: u64,
+    joint: u64,
+    step: u64,
+    out: &mut [u8],
+    at: usize,
+) -> Stop
+    requires { ⌜ now pairs ≡ pairTable ⌝ ∗ ⌜ ((y : ℕ) → x ≤ y → y < joint → Sound s y) ⌝ ∗ ⌜ Stepped step x joint ⌝ ∗ ⌜ at ≤ length (now out) ⌝ }
     ensures { λ r. ⌜ Answers (rowsThatFit (lineIn s) (length (now (out .entry)) - at) (stretchStations step x joint)) (now (out .entry)) (now (out .exit)) at joint r ⌝ }
 {
     let mut multiple = (x / step + 1) * step;
@@ -46,7 +55,7 @@ fn put_stretch(s: Stretch, x: u64, joint: u64, step: u64, out: &mut [u8], at: us
         if out.len() - end < 96 {
             return Stop { end, station: here };
         }
-        end = stretch::put_line(s, here, out, end);
+        end = stretch::put_line(pairs, s, here, out, end);
         here = multiple;
         multiple = multiple + step;
     }
@@ -75,6 +84,7 @@ fn rows_on(a: Alignment, lane: u32, first: u64, out: &mut [u8]) -> Chunk
 {
     let total = total_length(a);
     let step = a.step as u64;
+    let pairs = decimal::pairs();
     let mut place = places::start(a);
     let mut here = first;
     let mut bytes: usize = 0;
@@ -88,7 +98,7 @@ fn rows_on(a: Alignment, lane: u32, first: u64, out: &mut [u8]) -> Chunk
         let v = places::view_at(a, place, here, lane);
         let p = v.place;
         let s = v.stretch;
-        let stop = put_stretch(s, here, v.joint, step, out, bytes);
+        let stop = put_stretch(&pairs, s, here, v.joint, step, out, bytes);
         place = p;
         here = stop.station;
         bytes = stop.end;

@@ -1,27 +1,19 @@
--- One, two or three stores, or four digits.
-use mathlib.Core.Path.{_≡_, refl, sym, ap}
-use mathlib.Core.List.{[], _∷_}
+-- One store, a pair, one store and a pair, or four digits.
+use mathlib.Core.Path.{_≡_, refl, sym, ap, _∙_}
+use mathlib.Core.List.{List, [], _∷_}
 use Prim.Native.Nat.{ℕ, _+_, _/_, _%_, _≤_, _<_}
 use native.Mathlib.Omega.{arith}
-use native.Mathlib.Numerals.{towards-suc}
 use lib.ListN.{length, length-set}
 use Rattle.decimal.specs.Decimal.{digits}
-use Rattle.decimal.specs.Digits.{lastDigits, digits-one, digits-exact, length-exact, digits-full}
-use Rattle.decimal.specs.Written.{wrote-stores}
+use Rattle.decimal.specs.Digits.{lastDigits, digits-one, digits-exact, length-exact, digits-full, last-rest}
+use Rattle.decimal.specs.Written.{wrote-first, wrote-append}
 use borrow.Author.Needs.{needs}
 use Rattle.decimal.proofs.put_lead.Statement.{statement}
 use Rattle.decimal.proofs.put_lead.Tie as tie
 
-two : (n : ℕ) → 10 ≤ n → n < 100 → ((48 + n / 10) ∷ (48 + n % 10) ∷ []) ≡ digits n
-unfolding lastDigits
-two n h l = sym (digits-exact 1 n h (omega arith))
-
-three : (n : ℕ) → 100 ≤ n → n < 1000 → ((48 + n / 100) ∷ (48 + n % 100 / 10) ∷ (48 + n % 100 % 10) ∷ []) ≡ digits n
-unfolding lastDigits
-three n h l =
-    let a : n % 100 / 10 ≡ n / 10 % 10 = omega arith in
-    let b : n % 100 % 10 ≡ n % 10 = omega arith in
-    rw (a, b) (sym (digits-exact 2 n h (omega arith)))
+-- three digits: the first, and the pair of what is left
+three : (n : ℕ) → 100 ≤ n → n < 1000 → digits n ≡ (48 + n / 100) ∷ lastDigits 2 (n % 100)
+three n h l = digits-exact 2 n h (omega arith) ∙ ap (λ (x : List ℕ). (48 + n / 100) ∷ x) (sym (last-rest 2 n))
 
 cast-buf : tie.Need-cast-buf
 cast-buf c = search needs
@@ -30,7 +22,7 @@ add-buf : tie.Need-add-buf
 add-buf c = search needs
 
 slice-write-buf : tie.Need-slice-write-buf
-slice-write-buf c = let s = c .before .before in let n = s .args .n in omega (arith, ap length (digits-one n (omega arith)), s .pre .0)
+slice-write-buf c = let s = c .before .before in let n = s .args .n in omega (arith, ap length (digits-one n (omega arith)), s .pre .1 .0)
 
 add-result : tie.Need-add-result
 add-result c = search needs
@@ -39,7 +31,16 @@ same-length : tie.Need-same-length
 same-length c = search needs
 
 returns : tie.Need-returns
-returns c = let s = c .before .before in let n = s .args .n in wrote-stores ((48 + n) ∷ []) (sym (digits-one n (omega arith))) (s .pre .0) refl (omega arith)
+returns c = let s = c .before .before in let n = s .args .n in let e = digits-one n (omega arith) in rw e (wrote-first (s .args .buf .now) (s .args .at) (48 + n) (omega (arith, ap length e, s .pre .1 .0)))
+
+put-pair-requires : tie.Need-put-pair-requires
+put-pair-requires c κs = let s = c .before .before .before .before in let n = s .args .n in (s .pre .0, (omega (arith, length-exact 1 n (omega arith) (omega arith), s .pre .1 .0), omega arith))
+
+same-length-2 : tie.Need-same-length-2
+same-length-2 c = search needs
+
+returns-2 : tie.Need-returns-2
+returns-2 c = let s = c .before .before .before .before .before .before .before in let n = s .args .n in rw (digits-full 1 n (omega arith) (omega arith)) (c .before .before .put-pair .ensures)
 
 cast-buf-2 : tie.Need-cast-buf-2
 cast-buf-2 c = search needs
@@ -48,73 +49,26 @@ add-buf-2 : tie.Need-add-buf-2
 add-buf-2 c = search needs
 
 slice-write-buf-2 : tie.Need-slice-write-buf-2
-slice-write-buf-2 c = let s = c .before .before .before in let n = s .args .n in omega (arith, length-exact 1 n (omega arith) (omega arith), s .pre .0)
+slice-write-buf-2 c = let s = c .before .before .before .before in let n = s .args .n in omega (arith, length-exact 2 n (omega arith) (omega arith), s .pre .1 .0)
 
-cast-buf-3 : tie.Need-cast-buf-3
-cast-buf-3 c = search needs
+add-put-pair : tie.Need-add-put-pair
+add-put-pair c = search needs
 
-add-buf-3 : tie.Need-add-buf-3
-add-buf-3 c = search needs
-
-add-buf-4 : tie.Need-add-buf-4
-add-buf-4 c = search needs
-
-slice-write-buf-3 : tie.Need-slice-write-buf-3
-slice-write-buf-3 c = let s = c .before .before .before in let n = s .args .n in simp length-set (omega (arith, length-exact 1 n (omega arith) (omega arith), s .pre .0))
-
-add-result-2 : tie.Need-add-result-2
-add-result-2 c = search needs
-
-same-length-2 : tie.Need-same-length-2
-same-length-2 c = search needs
-
-returns-2 : tie.Need-returns-2
-returns-2 c = let s = c .before .before .before in let n = s .args .n in wrote-stores ((48 + n / 10) ∷ (48 + n % 10) ∷ []) (two n (omega arith) (omega arith)) (s .pre .0) (simp towards-suc) (omega arith)
-
-cast-buf-4 : tie.Need-cast-buf-4
-cast-buf-4 c = search needs
-
-add-buf-5 : tie.Need-add-buf-5
-add-buf-5 c = search needs
-
-slice-write-buf-4 : tie.Need-slice-write-buf-4
-slice-write-buf-4 c = let s = c .before .before .before .before in let n = s .args .n in omega (arith, length-exact 2 n (omega arith) (omega arith), s .pre .0)
-
-cast-buf-5 : tie.Need-cast-buf-5
-cast-buf-5 c = search needs
-
-add-buf-6 : tie.Need-add-buf-6
-add-buf-6 c = search needs
-
-add-buf-7 : tie.Need-add-buf-7
-add-buf-7 c = search needs
-
-slice-write-buf-5 : tie.Need-slice-write-buf-5
-slice-write-buf-5 c = let s = c .before .before .before .before in let n = s .args .n in simp length-set (omega (arith, length-exact 2 n (omega arith) (omega arith), s .pre .0))
-
-cast-buf-6 : tie.Need-cast-buf-6
-cast-buf-6 c = search needs
-
-add-buf-8 : tie.Need-add-buf-8
-add-buf-8 c = search needs
-
-add-buf-9 : tie.Need-add-buf-9
-add-buf-9 c = search needs
-
-slice-write-buf-6 : tie.Need-slice-write-buf-6
-slice-write-buf-6 c = let s = c .before .before .before .before in let n = s .args .n in simp length-set (omega (arith, length-exact 2 n (omega arith) (omega arith), s .pre .0))
-
-add-result-3 : tie.Need-add-result-3
-add-result-3 c = search needs
+put-pair-requires-2 : tie.Need-put-pair-requires-2
+put-pair-requires-2 c κs = let s = c .before .before .before .before .before in let n = s .args .n in (s .pre .0, (simp length-set (omega (arith, length-exact 2 n (omega arith) (omega arith), s .pre .1 .0)), omega arith))
 
 same-length-3 : tie.Need-same-length-3
-same-length-3 c = search needs
+same-length-3 c = c .before .before .put-pair2 .kept .1 .0 ∙ simp length-set
 
 returns-3 : tie.Need-returns-3
-returns-3 c = let s = c .before .before .before .before in let n = s .args .n in wrote-stores ((48 + n / 100) ∷ (48 + n % 100 / 10) ∷ (48 + n % 100 % 10) ∷ []) (three n (omega arith) (omega arith)) (s .pre .0) (simp towards-suc) (omega arith)
+returns-3 c =
+    let s = c .before .before .before .before .before .before .before .before in
+    let n = s .args .n in
+    let room : s .args .at < length (s .args .buf .now) = omega (arith, length-exact 2 n (omega arith) (omega arith), s .pre .1 .0) in
+    rw (three n (omega arith) (omega arith)) (wrote-append (wrote-first (s .args .buf .now) (s .args .at) (48 + n / 100) room) (c .before .before .put-pair2 .ensures) (omega arith))
 
 put-four-requires : tie.Need-put-four-requires
-put-four-requires c κs = let s = c .before .before .before .before .before in let n = s .args .n in (omega (arith, length-exact 3 n (omega arith) (omega arith), s .pre .0), s .pre .1)
+put-four-requires c κs = let s = c .before .before .before .before .before in let n = s .args .n in (s .pre .0, (omega (arith, length-exact 3 n (omega arith) (omega arith), s .pre .1 .0), s .pre .1 .1))
 
 same-length-4 : tie.Need-same-length-4
 same-length-4 c = search needs
@@ -132,28 +86,14 @@ put-lead-spec =
     add-result
     same-length
     returns
+    put-pair-requires
+    same-length-2
+    returns-2
     cast-buf-2
     add-buf-2
     slice-write-buf-2
-    cast-buf-3
-    add-buf-3
-    add-buf-4
-    slice-write-buf-3
-    add-result-2
-    same-length-2
-    returns-2
-    cast-buf-4
-    add-buf-5
-    slice-write-buf-4
-    cast-buf-5
-    add-buf-6
-    add-buf-7
-    slice-write-buf-5
-    cast-buf-6
-    add-buf-8
-    add-buf-9
-    slice-write-buf-6
-    add-result-3
+    add-put-pair
+    put-pair-requires-2
     same-length-3
     returns-3
     put-four-requires

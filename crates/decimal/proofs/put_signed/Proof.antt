@@ -46,7 +46,7 @@ module _ (c : tie.Else1) where
   plain = decimal-from (c .before .before .args .v) high
 
 slice-write-buf : tie.Need-slice-write-buf
-slice-write-buf c = omega (arith, ap length (spelt c), c .before .before .pre)
+slice-write-buf c = omega (arith, ap length (spelt c), c .before .before .pre .1)
 
 add-put-digits : tie.Need-add-put-digits
 add-put-digits c = search needs
@@ -61,19 +61,19 @@ add-put-digits-2 : tie.Need-add-put-digits-2
 add-put-digits-2 c = let f = c .before .before .before .fits .v in let g = rest-fits (c .before) in simp toZ-ofZ (rw (rest (c .before)) (record { fits = omega (arith, size (c .before)) }))
 
 put-digits-requires : tie.Need-put-digits-requires
-put-digits-requires c κs = let s = c .before .before .before in let f = s .fits .v in let g = rest-fits (c .before) in simp (toZ-ofZ, length-set) (rw (rest (c .before), again (c .before)) (omega (arith, ap length (spelt (c .before)), s .pre)))
+put-digits-requires c κs = let s = c .before .before .before in let f = s .fits .v in let g = rest-fits (c .before) in (s .pre .0, simp (toZ-ofZ, length-set) (rw (rest (c .before), again (c .before)) (omega (arith, ap length (spelt (c .before)), s .pre .1))))
 
 same-length : tie.Need-same-length
-same-length c = c .before .before .put-digits .kept .0 ∙ simp length-set
+same-length c = c .before .before .put-digits .kept .1 .0 ∙ simp length-set
 
 returns : tie.Need-returns
-returns c = let t = c .before .before .before .before in let s = t .before .before in let f = s .fits .v in let g = rest-fits t in rw (spelt t) (wrote-append (wrote-first (s .args .buf .now) (s .args .at) 45 (omega (arith, ap length (spelt t), s .pre))) (rw (rest t, again t) at (simp toZ-ofZ at (c .before .before .put-digits .ensures))) (omega (arith, ap length (spelt t), s .pre)))
+returns c = let t = c .before .before .before .before in let s = t .before .before in let f = s .fits .v in let g = rest-fits t in rw (spelt t) (wrote-append (wrote-first (s .args .buf .now) (s .args .at) 45 (omega (arith, ap length (spelt t), s .pre .1))) (rw (rest t, again t) at (simp toZ-ofZ at (c .before .before .put-digits .ensures))) (omega (arith, ap length (spelt t), s .pre .1)))
 
 cast-put-digits-2 : tie.Need-cast-put-digits-2
 cast-put-digits-2 c = let s = c .before .before .before in let f = s .fits .v in simp toZ-ofZ (yes-nonNeg (high (c .before)), record { fits = omega (arith, abs-fits (s .args .v) f) })
 
 put-digits-requires-2 : tie.Need-put-digits-requires-2
-put-digits-requires-2 c κs = let s = c .before .before .before in let f = s .fits .v in simp toZ-ofZ (omega (arith, ap length (plain (c .before)), s .pre))
+put-digits-requires-2 c κs = let s = c .before .before .before in let f = s .fits .v in (s .pre .0, simp toZ-ofZ (omega (arith, ap length (plain (c .before)), s .pre .1)))
 
 same-length-2 : tie.Need-same-length-2
 same-length-2 c = search needs

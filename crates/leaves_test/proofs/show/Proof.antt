@@ -14,21 +14,26 @@ use Rattle.decimal.specs.Written.{Wrote, wrote-length}
 use Rattle.leaves_test.proofs.show.Statement.{statement}
 use Rattle.leaves_test.proofs.show.Tie as tie
 
+pairs-requires : tie.Need-pairs-requires
+pairs-requires c κs = search needs
+
 slice-aggregate-put-field : tie.Need-slice-aggregate-put-field
 slice-aggregate-put-field c = search needs
 
 put-field-requires : tie.Need-put-field-requires
 put-field-requires c κs =
-    let f = c .before .fits .v in
-    simp toZ-ofZ (omega (arith, decimal-length 18 (c .before .args .v) (omega (arith, abs64 f))))
+    let s = c .before .before .before in
+    let f = s .fits .v in
+    (c .before .before .pairs .ensures, simp toZ-ofZ (omega (arith, decimal-length 18 (s .args .v) (omega (arith, abs64 f)))))
 
 -- the number and the byte after it stand within the line
-fits : (c : tie.After-put-field) → c .put-field .result ≤ length (c .put-field .last .0)
+fits : (c : tie.After-put-field) → c .put-field .result ≤ length (c .put-field .last .1 .0)
 fits c =
-    let f = c .before .before .fits .v in
-    let v = c .before .before .args .v in
+    let s = c .before .before .before .before in
+    let f = s .fits .v in
+    let v = s .args .v in
     let w = simp toZ-ofZ at (c .put-field .ensures .end) in
-    omega (arith, w, length-append (decimal v) (10 ∷ []), decimal-length 18 v (omega (arith, abs64 f)), c .put-field .kept .0)
+    omega (arith, w, length-append (decimal v) (10 ∷ []), decimal-length 18 v (omega (arith, abs64 f)), c .put-field .kept .1 .0)
 
 array-share-prefix-line : tie.Need-array-share-prefix-line
 array-share-prefix-line c = fits (c .before)
@@ -46,6 +51,7 @@ pub show-spec : {M : Type 1} → statement M
 show-spec =
     tie.close
     (tie.spec
+    pairs-requires
     slice-aggregate-put-field
     put-field-requires
     array-share-prefix-line

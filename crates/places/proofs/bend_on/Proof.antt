@@ -20,19 +20,19 @@ mul-e : tie.Need-mul-e
 mul-e c = search needs
 
 -- the element of the place is the road's
-item : (s : tie.Start) → getD (s .args .t1 .elements) (s .args .i) blankElement ≡ elementOf (roadIn (s .args .t1)) (s .args .i)
-item s = element-item (s .args .t1) (s .args .i) (element-within (s .args .t1) (s .args .i) (s .pre .1))
+item : (s : tie.Start) → getD (s .args .a .elements) (s .args .i) blankElement ≡ elementOf (roadIn (s .args .a)) (s .args .i)
+item s = element-item (s .args .a) (s .args .i) (element-within (s .args .a) (s .args .i) (s .pre .1))
 
-element-copy-out-e : tie.Need-element-copy-out-e
-element-copy-out-e c = search needs
+array-copy-out-e : tie.Need-array-copy-out-e
+array-copy-out-e c = search needs
 
 arc-bend-requires : tie.Need-arc-bend-requires
 arc-bend-requires c κs = search needs
 
 returns : tie.Need-returns
 returns c =
-    let s = c .before .before .before .before .before in
-    let a = s .args .t1 in
+    let s = c .before .before .before .before .before .before in
+    let a = s .args .a in
     let i = s .args .i in
     let q = item s in
     let k : elementOf (roadIn a) i .kind ≡ 1 = ap (λ (e : Element). e .kind) (sym q) ∙ c .before .before .if1 .taken in
@@ -41,16 +41,16 @@ returns c =
 
 returns-2 : tie.Need-returns-2
 returns-2 c =
-    let s = c .before .before .before .before .before in
-    let a = s .args .t1 in
+    let s = c .before .before .before .before .before .before in
+    let a = s .args .a in
     let i = s .args .i in
     let q = ap (λ (e : Element). e .kind) (item s) in
     straight-curved (s .pre .0 .road) i (other-kind (s .pre .0 .road) i (s .pre .1) (λ (k : elementOf (roadIn a) i .kind ≡ 1). c .before .before .if1 .left (q ∙ k)) (λ (k : elementOf (roadIn a) i .kind ≡ 2). c .if2 .taken (q ∙ k)))
 
 sub-h : tie.Need-sub-h
 sub-h c =
-    let s = c .before .before .before .before .before in
-    let a = s .args .t1 in
+    let s = c .before .before .before .before .before .before in
+    let a = s .args .a in
     let i = s .args .i in
     let q = ap (λ (e : Element). e .kind) (item s) in
     clothoid-inside (s .pre .0 .road) i (s .pre .1) (sym q ∙ c .if2 .left) .0
@@ -58,16 +58,16 @@ sub-h c =
 mul-before : tie.Need-mul-before
 mul-before c = search needs
 
-element-copy-out-before : tie.Need-element-copy-out-before
-element-copy-out-before c = search needs
+array-copy-out-before : tie.Need-array-copy-out-before
+array-copy-out-before c = search needs
 
 out-bend-requires : tie.Need-out-bend-requires
 out-bend-requires c κs = search needs
 
 returns-3 : tie.Need-returns-3
 returns-3 c =
-    let s = c .before .before .before .before .before .before .before .before .before .before in
-    let a = s .args .t1 in
+    let s = c .before .before .before .before .before .before .before .before .before .before .before in
+    let a = s .args .a in
     let i = s .args .i in
     let G = s .pre .0 .road in
     let h = element-within a i (s .pre .1) in
@@ -84,16 +84,16 @@ add-j c = search needs
 mul-next : tie.Need-mul-next
 mul-next c = search needs
 
-element-copy-out-next : tie.Need-element-copy-out-next
-element-copy-out-next c = search needs
+array-copy-out-next : tie.Need-array-copy-out-next
+array-copy-out-next c = search needs
 
 in-bend-requires : tie.Need-in-bend-requires
 in-bend-requires c κs = search needs
 
 returns-4 : tie.Need-returns-4
 returns-4 c =
-    let s = c .before .before .before .before .before .before .before .before .before .before .before in
-    let a = s .args .t1 in
+    let s = c .before .before .before .before .before .before .before .before .before .before .before .before in
+    let a = s .args .a in
     let i = s .args .i in
     let G = s .pre .0 .road in
     let h = element-within a i (s .pre .1) in
@@ -111,17 +111,17 @@ bend-on-spec =
     tie.close
     (tie.spec
     mul-e
-    element-copy-out-e
+    array-copy-out-e
     arc-bend-requires
     returns
     returns-2
     sub-h
     mul-before
-    element-copy-out-before
+    array-copy-out-before
     out-bend-requires
     returns-3
     add-j
     mul-next
-    element-copy-out-next
+    array-copy-out-next
     in-bend-requires
     returns-4)

@@ -10,34 +10,34 @@ use Rattle.places.proofs.element_on.Statement.{statement}
 use Rattle.places.proofs.element_on.Tie as tie
 
 abbrev Inv-loop : tie.InvT-loop
-Inv-loop x a n i₀ begin₀ i begin = ElementReached (roadIn a) (record { index = i; begin = begin }) x
+Inv-loop a x elements i₀ begin₀ i begin = ElementReached (roadIn a) (record { index = i; begin = begin }) x
 
 abbrev μ-loop : tie.MeasureT-loop
-μ-loop x a n i₀ begin₀ i begin = n - i
+μ-loop a x elements i₀ begin₀ i begin = a .«element_count» - i
 
-long : (c : tie.Start Inv-loop μ-loop) → length (c .args .t1 .elements) ≡ 200
+long : (c : tie.Start Inv-loop μ-loop) → length (c .args .a .elements) ≡ 200
 long c = search (needs, unmapped)
 
 loop-holds : tie.Need-loop-holds Inv-loop μ-loop
 loop-holds c = search needs
 
-add-loop : tie.Need-add-loop Inv-loop μ-loop
-add-loop c = search needs
+add-if1 : tie.Need-add-if1 Inv-loop μ-loop
+add-if1 c = search needs
 
 mul-e : tie.Need-mul-e Inv-loop μ-loop
 mul-e c = search needs
 
-element-copy-out-e : tie.Need-element-copy-out-e Inv-loop μ-loop
-element-copy-out-e c = search needs
+array-copy-out-e : tie.Need-array-copy-out-e Inv-loop μ-loop
+array-copy-out-e c = search needs
 
 cast-end : tie.Need-cast-end Inv-loop μ-loop
 cast-end c = search needs
 
 add-end : tie.Need-add-end Inv-loop μ-loop
 add-end c =
-    let s = c .before .before .before .before in
-    let b = element-below (s .pre .0 .road) (c .before .before .before .loop .inv) in
-    record { fits = omega (arith, c .struct-known .given) }
+    let s = c .before .before .before .before .before .before in
+    let b = element-below (s .pre .0 .road) (c .before .before .before .before .loop .inv) in
+    record { fits = omega (arith, c .struct-known2 .given) }
 
 add-i : tie.Need-add-i Inv-loop μ-loop
 add-i c = search needs
@@ -47,24 +47,24 @@ loop-less c = search needs
 
 loop-again : tie.Need-loop-again Inv-loop μ-loop
 loop-again c =
-    let s = c .before .before .before .before .before in
-    let l = c .before .before .before .before .loop in
-    let a = s .args .t1 in
+    let s = c .before .before .before .before .before .before .before in
+    let l = c .before .before .before .before .before .loop in
+    let a = s .args .a in
     let m = plan-count a (s .pre .0) (long s) in
     element-more _ (l .inv) (element-item a (l .i) (omega arith)) (omega arith) (omega arith)
 
 returns : tie.Need-returns Inv-loop μ-loop
 returns c =
-    let s = c .before .before in
-    let l = c .before .loop in
-    let m = plan-count (s .args .t1) (s .pre .0) (long s) in
+    let s = c .before .before .before .before in
+    let l = c .before .before .loop in
+    let m = plan-count (s .args .a) (s .pre .0) (long s) in
     record { begin = l .inv .begin; at = reached-ends (l .inv .at) (λ h. absurd (omega arith)) }
 
 returns-2 : tie.Need-returns-2 Inv-loop μ-loop
 returns-2 c =
-    let s = c .before .before .before .before .before in
-    let l = c .before .before .before .before .loop in
-    let a = s .args .t1 in
+    let s = c .before .before .before .before .before .before .before in
+    let l = c .before .before .before .before .before .loop in
+    let a = s .args .a in
     let e = element-end _ (l .inv) (element-item a (l .i) (omega arith)) in
     record { begin = l .inv .begin; at = reached-ends (l .inv .at) (λ h. omega arith) }
 
@@ -75,9 +75,9 @@ element-on-spec =
     Inv-loop
     μ-loop
     loop-holds
-    add-loop
+    add-if1
     mul-e
-    element-copy-out-e
+    array-copy-out-e
     cast-end
     add-end
     add-i

@@ -14,8 +14,8 @@ use Rattle.places.proofs.joint_after.Tie as tie
 mul-e : tie.Need-mul-e
 mul-e c = search needs
 
-element-copy-out-e : tie.Need-element-copy-out-e
-element-copy-out-e c = search needs
+array-copy-out-e : tie.Need-array-copy-out-e
+array-copy-out-e c = search needs
 
 cast-stop : tie.Need-cast-stop
 cast-stop c = search needs
@@ -28,8 +28,8 @@ add-result c = search needs
 
 returns : tie.Need-returns
 returns c =
-    let s = c .before .before .before .before in
-    let a = s .args .t1 in
+    let s = c .before .before .before .before .before in
+    let a = s .args .a in
     let p = s .args .p in
     let f = s .pre .1 .0 in
     let e = found-end _ f (element-item a (p .index) (element-within a _ (f .at .below))) in
@@ -41,8 +41,8 @@ add-j c = search needs
 mul-c : tie.Need-mul-c
 mul-c c = search needs
 
-element-copy-out-c : tie.Need-element-copy-out-c
-element-copy-out-c c = search needs
+array-copy-out-c : tie.Need-array-copy-out-c
+array-copy-out-c c = search needs
 
 cast-least : tie.Need-cast-least
 cast-least c = search needs
@@ -55,8 +55,8 @@ least-requires-2 c κs = search needs
 
 returns-2 : tie.Need-returns-2
 returns-2 c =
-    let s = c .before .before .before .before .before .before .before .before in
-    let a = s .args .t1 in
+    let s = c .before .before .before .before .before .before .before .before .before .before in
+    let a = s .args .a in
     let p = s .args .p in
     let k = s .args .k in
     let f = s .pre .1 .0 in
@@ -70,14 +70,14 @@ joint-after-spec =
     tie.close
     (tie.spec
     mul-e
-    element-copy-out-e
+    array-copy-out-e
     cast-stop
     add-stop
     add-result
     returns
     add-j
     mul-c
-    element-copy-out-c
+    array-copy-out-c
     cast-least
     least-requires
     least-requires-2

@@ -18,48 +18,48 @@ mul-t : tie.Need-mul-t
 mul-t c = search needs
 
 -- the tangent of the place is the road's, and its numbers are small
-item : (s : tie.Start) → getD (s .args .t1 .tangents) (s .args .p .index) blankTangent ≡ tangentOf (roadIn (s .args .t1)) (s .args .p .index)
-item s = tangent-item (s .args .t1) (s .args .p .index) (tangent-within (s .args .t1) (s .args .p .index) (s .pre .1 .at .below))
+item : (s : tie.Start) → getD (s .args .a .tangents) (s .args .p .index) blankTangent ≡ tangentOf (roadIn (s .args .a)) (s .args .p .index)
+item s = tangent-item (s .args .a) (s .args .p .index) (tangent-within (s .args .a) (s .args .p .index) (s .pre .1 .at .below))
 
-small : (s : tie.Start) → Sized (s .args .p) (getD (s .args .t1 .tangents) (s .args .p .index) blankTangent)
+small : (s : tie.Start) → Sized (s .args .p) (getD (s .args .a .tangents) (s .args .p .index) blankTangent)
 small s = sized (s .pre .0 .road) _ (s .pre .1 .placed) (item s) (s .pre .1 .at .below)
 
-element-copy-out-t : tie.Need-element-copy-out-t
-element-copy-out-t c = search needs
+array-copy-out-t : tie.Need-array-copy-out-t
+array-copy-out-t c = search needs
 
 cast-if1 : tie.Need-cast-if1
 cast-if1 c = search needs
 
 add-if1 : tie.Need-add-if1
-add-if1 c = let z = small (c .before .before) in record { fits = omega arith }
+add-if1 c = let z = small (c .before .before .before) in record { fits = omega arith }
 
 curve-before-requires : tie.Need-curve-before-requires
-curve-before-requires c κs = small (c .before .before .before)
+curve-before-requires c κs = small (c .before .before .before .before)
 
 returns : tie.Need-returns
 returns c =
-    let s = c .before .before .before .before in
+    let s = c .before .before .before .before .before in
     let f = s .pre .1 in
-    subst (λ (p : Piece). PieceAt (roadIn (s .args .t1)) p (s .args .x)) (sym (c .curve-before .ensures))
+    subst (λ (p : Piece). PieceAt (roadIn (s .args .a)) p (s .args .x)) (sym (c .curve-before .ensures))
     (before-piece (s .pre .0 .road) _ f (item s) (c .before .if1 .taken))
 
 sub-far : tie.Need-sub-far
-sub-far c = small (c .before .before .before .before) .half
+sub-far c = small (c .before .before .before .before .before) .half
 
 cast-if2 : tie.Need-cast-if2
 cast-if2 c = search needs
 
 add-if2 : tie.Need-add-if2
-add-if2 c = let z = small (c .before .before .before .before) in record { fits = omega arith }
+add-if2 c = let z = small (c .before .before .before .before .before) in record { fits = omega arith }
 
 straight-part-requires : tie.Need-straight-part-requires
-straight-part-requires c κs = small (c .before .before .before .before .before .before)
+straight-part-requires c κs = small (c .before .before .before .before .before .before .before)
 
 returns-2 : tie.Need-returns-2
 returns-2 c =
-    let s = c .before .before .before .before .before .before .before in
+    let s = c .before .before .before .before .before .before .before .before in
     let f = s .pre .1 in
-    subst (λ (p : Piece). PieceAt (roadIn (s .args .t1)) p (s .args .x)) (sym (c .straight-part .ensures))
+    subst (λ (p : Piece). PieceAt (roadIn (s .args .a)) p (s .args .x)) (sym (c .straight-part .ensures))
     (straight-piece (s .pre .0 .road) _ f (item s) (c .before .before .before .before .if1 .left) (on-part _ _ _ (c .before .if2 .taken)))
 
 add-j : tie.Need-add-j
@@ -68,23 +68,23 @@ add-j c = search needs
 mul-next : tie.Need-mul-next
 mul-next c = search needs
 
-element-copy-out-next : tie.Need-element-copy-out-next
-element-copy-out-next c =
-    let s = c .before .before .before .before .before .before in
+array-copy-out-next : tie.Need-array-copy-out-next
+array-copy-out-next c =
+    let s = c .before .before .before .before .before .before .before in
     let p = s .args .p in
-    let t = getD (s .args .t1 .tangents) (p .index) blankTangent in
+    let t = getD (s .args .a .tangents) (p .index) blankTangent in
     let w = past-part (s .args .x) (p .begin + (t .length - t .half)) (t .half) (c .if2 .left) in
     let n = not-last (s .pre .0 .road) t (s .pre .1) (item s) (w .long) in
     let m = s .pre .0 .road .tangent-count .high in
     omega arith
 
 curve-after-requires : tie.Need-curve-after-requires
-curve-after-requires c κs = small (c .before .before .before .before .before .before .before)
+curve-after-requires c κs = small (c .before .before .before .before .before .before .before .before)
 
 returns-3 : tie.Need-returns-3
 returns-3 c =
-    let s = c .before .before .before .before .before .before .before .before in
-    let a = s .args .t1 in
+    let s = c .before .before .before .before .before .before .before .before .before in
+    let a = s .args .a in
     let i = s .args .p .index in
     let f = s .pre .1 in
     let q = item s in
@@ -98,7 +98,7 @@ piece-on-spec =
     tie.close
     (tie.spec
     mul-t
-    element-copy-out-t
+    array-copy-out-t
     cast-if1
     add-if1
     curve-before-requires
@@ -110,6 +110,6 @@ piece-on-spec =
     returns-2
     add-j
     mul-next
-    element-copy-out-next
+    array-copy-out-next
     curve-after-requires
     returns-3)

@@ -12,21 +12,21 @@ use Rattle.places.proofs.point_on.Statement.{statement}
 use Rattle.places.proofs.point_on.Tie as tie
 
 abbrev Inv-loop : tie.InvT-loop
-Inv-loop point x a n i₀ i = Reached (pointStation (roadIn a)) (length (roadIn a .crossfalls) - 1) x i
+Inv-loop a point x crossfalls i₀ i = Reached (pointStation (roadIn a)) (length (roadIn a .crossfalls) - 1) x i
 
 abbrev μ-loop : tie.MeasureT-loop
-μ-loop point x a n i₀ i = n - i
+μ-loop a point x crossfalls i₀ i = a .«crossfall_count» - i
 
-long : (c : tie.Start Inv-loop μ-loop) → length (c .args .t1 .crossfalls) ≡ 200
+long : (c : tie.Start Inv-loop μ-loop) → length (c .args .a .crossfalls) ≡ 200
 long c = search (needs, unmapped)
 
 loop-holds : tie.Need-loop-holds Inv-loop μ-loop
 loop-holds c = search needs
 
-add-loop : tie.Need-add-loop Inv-loop μ-loop
-add-loop c =
-    let s = c .before in
-    let m = point-count (s .args .t1) (s .pre .0) (long s) in
+add-if1 : tie.Need-add-if1 Inv-loop μ-loop
+add-if1 c =
+    let s = c .before .before in
+    let m = point-count (s .args .a) (s .pre .0) (long s) in
     search needs
 
 add-j : tie.Need-add-j Inv-loop μ-loop
@@ -35,36 +35,36 @@ add-j c = search needs
 mul-p : tie.Need-mul-p Inv-loop μ-loop
 mul-p c = search needs
 
-element-copy-out-p : tie.Need-element-copy-out-p Inv-loop μ-loop
-element-copy-out-p c = search needs
+array-copy-out-p : tie.Need-array-copy-out-p Inv-loop μ-loop
+array-copy-out-p c = search needs
 
-cast-if1 : tie.Need-cast-if1 Inv-loop μ-loop
-cast-if1 c = search needs
+cast-if2 : tie.Need-cast-if2 Inv-loop μ-loop
+cast-if2 c = search needs
 
 loop-less : tie.Need-loop-less Inv-loop μ-loop
 loop-less c = search needs
 
 loop-again : tie.Need-loop-again Inv-loop μ-loop
 loop-again c =
-    let s = c .before .before .before .before .before in
-    let l = c .before .before .before .before .loop in
-    let a = s .args .t1 in
+    let s = c .before .before .before .before .before .before .before in
+    let l = c .before .before .before .before .before .loop in
+    let a = s .args .a in
     let m = point-count a (s .pre .0) (long s) in
     let q = ap (λ (p : Crossfall). p .station) (point-item a (l .i + 1) (omega arith)) in
     record { within = omega arith; begun = omega arith }
 
 returns : tie.Need-returns Inv-loop μ-loop
 returns c =
-    let s = c .before .before in
-    let l = c .before .loop in
-    let m = point-count (s .args .t1) (s .pre .0) (long s) in
+    let s = c .before .before .before .before in
+    let l = c .before .before .loop in
+    let m = point-count (s .args .a) (s .pre .0) (long s) in
     reached-ends (l .inv) (λ h. absurd (omega arith))
 
 returns-2 : tie.Need-returns-2 Inv-loop μ-loop
 returns-2 c =
-    let s = c .before .before .before .before .before in
-    let l = c .before .before .before .before .loop in
-    let a = s .args .t1 in
+    let s = c .before .before .before .before .before .before .before in
+    let l = c .before .before .before .before .before .loop in
+    let a = s .args .a in
     let q = ap (λ (p : Crossfall). p .station) (point-item a (l .i + 1) (omega arith)) in
     let n = ap (pointStation (roadIn a)) (add-one (l .i)) in
     reached-ends (l .inv) (λ h. omega arith)
@@ -76,11 +76,11 @@ point-on-spec =
     Inv-loop
     μ-loop
     loop-holds
-    add-loop
+    add-if1
     add-j
     mul-p
-    element-copy-out-p
-    cast-if1
+    array-copy-out-p
+    cast-if2
     loop-less
     loop-again
     returns

@@ -13,8 +13,8 @@ use Rattle.places.proofs.sides_on.Tie as tie
 mul-c : tie.Need-mul-c
 mul-c c = search needs
 
-element-copy-out-c : tie.Need-element-copy-out-c
-element-copy-out-c c = search needs
+array-copy-out-c : tie.Need-array-copy-out-c
+array-copy-out-c c = search needs
 
 add-j : tie.Need-add-j
 add-j c = search needs
@@ -22,16 +22,16 @@ add-j c = search needs
 mul-d : tie.Need-mul-d
 mul-d c = search needs
 
-element-copy-out-d : tie.Need-element-copy-out-d
-element-copy-out-d c = search needs
+array-copy-out-d : tie.Need-array-copy-out-d
+array-copy-out-d c = search needs
 
 sides-of-requires : tie.Need-sides-of-requires
 sides-of-requires c κs = search needs
 
 returns : tie.Need-returns
 returns c =
-    let s = c .before .before .before in
-    let a = s .args .t1 in
+    let s = c .before .before .before .before in
+    let a = s .args .a in
     let k = s .args .k in
     let w = point-within a _ (s .pre .1) in
     c .sides-of .ensures ∙ ap₂ sidesOf (point-item a k (omega arith)) (point-item a (k + 1) (omega arith) ∙ ap (pointOf (roadIn a)) (add-one k))
@@ -39,4 +39,4 @@ returns c =
 pub sides-on-spec : {M : Type 1} → statement M
 sides-on-spec =
     tie.close
-    (tie.spec mul-c element-copy-out-c add-j mul-d element-copy-out-d sides-of-requires returns)
+    (tie.spec mul-c array-copy-out-c add-j mul-d array-copy-out-d sides-of-requires returns)

@@ -11,12 +11,12 @@ use Rattle.places.proofs.tangent_on.Statement.{statement}
 use Rattle.places.proofs.tangent_on.Tie as tie
 
 abbrev Inv-loop : tie.InvT-loop
-Inv-loop x a n place₀ place = TangentReached (roadIn a) place x
+Inv-loop a x tangents place₀ place = TangentReached (roadIn a) place x
 
 abbrev μ-loop : tie.MeasureT-loop
-μ-loop x a n place₀ place = n - place .index
+μ-loop a x tangents place₀ place = a .«tangent_count» - place .index
 
-long : (c : tie.Start Inv-loop μ-loop) → length (c .args .t1 .tangents) ≡ 100
+long : (c : tie.Start Inv-loop μ-loop) → length (c .args .a .tangents) ≡ 100
 long c = search (needs, unmapped)
 
 loop-holds : tie.Need-loop-holds Inv-loop μ-loop
@@ -28,48 +28,48 @@ add-if1 c = search needs
 mul-t : tie.Need-mul-t Inv-loop μ-loop
 mul-t c = search needs
 
-element-copy-out-t : tie.Need-element-copy-out-t Inv-loop μ-loop
-element-copy-out-t c = search needs
+array-copy-out-t : tie.Need-array-copy-out-t Inv-loop μ-loop
+array-copy-out-t c = search needs
 
 cast-if2 : tie.Need-cast-if2 Inv-loop μ-loop
 cast-if2 c = search needs
 
 add-if2 : tie.Need-add-if2 Inv-loop μ-loop
 add-if2 c =
-    let s = c .before .before .before .before .before .before in
-    let l = c .before .before .before .before .before .loop in
-    let z = sized (s .pre .0 .road) _ (l .inv .placed) (tangent-item (s .args .t1) (l .place .index) (omega arith)) (l .inv .at .within) in
+    let s = c .before .before .before .before .before .before .before .before in
+    let l = c .before .before .before .before .before .before .loop in
+    let z = sized (s .pre .0 .road) _ (l .inv .placed) (tangent-item (s .args .a) (l .place .index) (omega arith)) (l .inv .at .within) in
     record { fits = omega arith }
 
 passed-requires : tie.Need-passed-requires Inv-loop μ-loop
 passed-requires c κs =
-    let s = c .before .before .before .before .before .before .before in
-    let l = c .before .before .before .before .before .before .loop in
-    sized (s .pre .0 .road) _ (l .inv .placed) (tangent-item (s .args .t1) (l .place .index) (omega arith)) (l .inv .at .within)
+    let s = c .before .before .before .before .before .before .before .before .before in
+    let l = c .before .before .before .before .before .before .before .loop in
+    sized (s .pre .0 .road) _ (l .inv .placed) (tangent-item (s .args .a) (l .place .index) (omega arith)) (l .inv .at .within)
 
 loop-less : tie.Need-loop-less Inv-loop μ-loop
 loop-less c = omega (arith, ap (λ (p : TangentPlace). p .index) (c .passed .ensures))
 
 loop-again : tie.Need-loop-again Inv-loop μ-loop
 loop-again c =
-    let s = c .before .before .before .before .before .before .before .before in
-    let l = c .before .before .before .before .before .before .before .loop in
-    let a = s .args .t1 in
+    let s = c .before .before .before .before .before .before .before .before .before .before in
+    let l = c .before .before .before .before .before .before .before .before .loop in
+    let a = s .args .a in
     let m = tangent-count a (s .pre .0) (long s) in
     subst (λ (p : TangentPlace). TangentReached (roadIn a) p (s .args .x)) (sym (c .passed .ensures)) (tangent-more _ (l .inv) (tangent-item a (l .place .index) (omega arith)) (omega arith) (omega arith))
 
 returns : tie.Need-returns Inv-loop μ-loop
 returns c =
-    let s = c .before .before .before in
-    let l = c .before .before .loop in
-    let m = tangent-count (s .args .t1) (s .pre .0) (long s) in
+    let s = c .before .before .before .before .before in
+    let l = c .before .before .before .loop in
+    let m = tangent-count (s .args .a) (s .pre .0) (long s) in
     record { placed = l .inv .placed; at = reached-ends (l .inv .at) (λ h. absurd (omega arith)) }
 
 returns-2 : tie.Need-returns-2 Inv-loop μ-loop
 returns-2 c =
-    let s = c .before .before .before .before .before .before .before in
-    let l = c .before .before .before .before .before .before .loop in
-    let e = tangent-end _ (l .inv) (tangent-item (s .args .t1) (l .place .index) (omega arith)) in
+    let s = c .before .before .before .before .before .before .before .before .before in
+    let l = c .before .before .before .before .before .before .before .loop in
+    let e = tangent-end _ (l .inv) (tangent-item (s .args .a) (l .place .index) (omega arith)) in
     record { placed = l .inv .placed; at = reached-ends (l .inv .at) (λ h. omega arith) }
 
 pub tangent-on-spec : {M : Type 1} → statement M
@@ -81,7 +81,7 @@ tangent-on-spec =
     loop-holds
     add-if1
     mul-t
-    element-copy-out-t
+    array-copy-out-t
     cast-if2
     add-if2
     passed-requires

@@ -14,13 +14,13 @@ short : (c : tie.Start) → length (digits (c .args .n)) ≤ 20
 short c = let f = c .fits .n in digits-short (c .args .n) (omega (arith, f .fits))
 
 put-digits-requires : tie.Need-put-digits-requires
-put-digits-requires c κs = let s = c .before .before in omega (arith, short s, s .pre)
+put-digits-requires c κs = let s = c .before .before in (s .pre .0, omega (arith, short s, s .pre .1))
 
 slice-write-line : tie.Need-slice-write-line
-slice-write-line c = let s = c .before .before .before .before .before in let d = c .before .before .put-digits in omega (arith, short s, s .pre, d .ensures .end, d .kept .0)
+slice-write-line c = let s = c .before .before .before .before .before in let d = c .before .before .put-digits in omega (arith, short s, s .pre .1, d .ensures .end, d .kept .1 .0)
 
 add-result : tie.Need-add-result
-add-result c = let s = c .before .before .before .before .before in let d = c .before .before .put-digits in let e = d .ensures .end in let h = short s in let p = s .pre in let g = s .good in search needs
+add-result c = let s = c .before .before .before .before .before in let d = c .before .before .put-digits in let e = d .ensures .end in let h = short s in let p = s .pre .1 in let g = s .good in search needs
 
 same-length : tie.Need-same-length
 same-length c = search needs
@@ -29,7 +29,7 @@ returns : tie.Need-returns
 returns c =
     let s = c .before .before .before .before .before in
     let d = c .before .before .put-digits in
-    (wrote-byte (s .args .after) (d .ensures) (omega (arith, short s, s .pre)), omega (arith, short s, d .ensures .end))
+    (wrote-byte (s .args .after) (d .ensures) (omega (arith, short s, s .pre .1)), omega (arith, short s, d .ensures .end))
 
 pub put-number-spec : {M : Type 1} → statement M
 put-number-spec =

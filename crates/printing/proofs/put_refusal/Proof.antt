@@ -11,6 +11,9 @@ use Rattle.printing.specs.RefusalLine.{digits-short, refusal-parts}
 use Rattle.printing.proofs.put_refusal.Statement.{statement}
 use Rattle.printing.proofs.put_refusal.Tie as tie
 
+pairs-requires : tie.Need-pairs-requires
+pairs-requires c κs = search needs
+
 put-mark-requires : tie.Need-put-mark-requires
 put-mark-requires c κs = search needs
 
@@ -25,9 +28,9 @@ same-length c = search needs
 
 returns : tie.Need-returns
 returns c =
-    let s = c .before .before .before .before .before .before .before .before .before .before .before .before .before in
-    let m = c .before .before .before .before .before .before .before .before .before .before .put-mark in
-    let n = c .before .before .before .before .before .before .put-number in
+    let s = c .before .before .before .before .before .before .before .before .before .before .before .before .before .before .before .before in
+    let m = c .before .before .before .before .before .before .before .before .before .before .before .before .put-mark in
+    let n = c .before .before .before .before .before .before .before .put-number in
     let p = c .before .before .put-number2 in
     let first = wrote-append (m .ensures) (n .ensures .0) (let l = s .pre in omega arith) in
     let whole = wrote-append first (p .ensures .0) (let l = s .pre in omega (arith, first .end, n .ensures .1, m .ensures .end)) in
@@ -36,4 +39,4 @@ returns c =
 pub put-refusal-spec : {M : Type 1} → statement M
 put-refusal-spec =
     tie.close
-    (tie.spec put-mark-requires put-number-requires put-number-requires-2 same-length returns)
+    (tie.spec pairs-requires put-mark-requires put-number-requires put-number-requires-2 same-length returns)

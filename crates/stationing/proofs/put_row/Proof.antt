@@ -34,16 +34,21 @@ shown c =
     let s = c .before .before .before .before in
     c .view-at .ensures .shows (s .args .station) (omega arith) (c .view-at .ensures .beyond) (s .pre .1 .0)
 
+pairs-requires : tie.Need-pairs-requires
+pairs-requires c κs = search needs
+
 put-line-requires : tie.Need-put-line-requires
-put-line-requires c κs = (shown (c .before .before) .sound, c .before .before .before .before .before .before .pre .1 .1)
+put-line-requires c κs =
+    let v = c .before .before .before .before in
+    (c .before .before .pairs .ensures, (shown v .sound, v .before .before .before .before .pre .1 .1))
 
 same-length : tie.Need-same-length
 same-length c = search needs
 
 returns : tie.Need-returns
 returns c =
-    let s = c .before .before .before .before .before .before .before .before .before in
-    let e = line-shows (shown (c .before .before .before .before .before)) in
+    let s = c .before .before .before .before .before .before .before .before .before .before .before in
+    let e = line-shows (shown (c .before .before .before .before .before .before .before)) in
     let w = overwritten (c .before .before .put-line .ensures .0) in
     (w .0 ∙ ap length e, w .1 ∙ ap (λ (l : List ℕ). overwrite l (now (s .args .line))) e)
 
@@ -54,6 +59,7 @@ put-row-spec =
     limits-of-requires
     start-requires
     view-at-requires
+    pairs-requires
     put-line-requires
     same-length
     returns)

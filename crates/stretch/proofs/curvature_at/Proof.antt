@@ -36,13 +36,16 @@ module _ (c : tie.After-along) where
   over-is = let p = start gone .pre in simp (toZ-ofZ, f.bend-fits p, f.bend-change-fits p, u-fits gone) at (c .along .ensures)
 
 round-div-requires : tie.Need-round-div-requires
-round-div-requires c κs = let p = start (gone (c .before)) .pre in simp (toZ-ofZ, f.bend-span-fits p) (p .bend-low)
+round-div-requires c κs = let p = start (gone (c .before .before)) .pre in simp (toZ-ofZ, f.bend-span-fits p) (p .bend-low)
 
 returns : tie.Need-returns
-returns c = let a = c .before .before in let d = gone a in let p = start d .pre in
+returns c = let a = c .before in let d = gone a in f.no-curvature (start d .pre) (u-is d) (over-is a) (over-fits a) (c .if1 .taken)
+
+returns-2 : tie.Need-returns-2
+returns-2 c = let a = c .before .before .before in let d = gone a in let p = start d .pre in
     let k : SFits w64 (c .round-div .result) = record { sfits = c .round-div .ok } in
     simp toZ-ofZ (f.curvature-answer p (u-is d) (over-is a) (simp (toZ-ofZ, over-fits a, f.bend-span-fits p) at (c .round-div .ensures)))
 
 pub curvature-at-spec : {M : Type 1} → statement M
 curvature-at-spec =
-    tie.close (tie.spec distance-requires along-requires round-div-requires returns)
+    tie.close (tie.spec distance-requires along-requires round-div-requires returns returns-2)

@@ -1,21 +1,35 @@
 use mathlib.Core.Path.{_≡_}
+use borrow.Author.Needs.{needs}
 use lib.IntN.{_+ℤ_, _*ℤ_}
 use mir.Syntax.{w64}
 use mir.Val.{SFits}
 use mir.Facts.{toZ-ofZ}
-use Rattle.stretch.proofs.Laws.{start-fits, side-along, side-lane, side-answer}
+use Rattle.stretch.proofs.Laws.{is-zero, even-fits, even-answer, start-fits, side-along, side-lane, side-answer}
 use Rattle.stretch.proofs.lane_at.Statement.{statement}
 use Rattle.stretch.proofs.lane_at.Tie as tie
 
+mul-round-div : tie.Need-mul-round-div
+mul-round-div c = let s = c .before in simp (toZ-ofZ, s .fits .start, s .fits .width) (even-fits (s .pre))
+
+round-div-requires : tie.Need-round-div-requires
+round-div-requires c κs = search needs
+
+returns : tie.Need-returns
+returns c = let s = c .before .before in
+    let k : SFits w64 (c .round-div .result) = record { sfits = c .round-div .ok } in
+    let j = s .fits .start in
+    simp toZ-ofZ (even-answer (s .pre) (is-zero (s .fits .change) (c .before .if1 .taken))
+    (simp (toZ-ofZ, s .fits .start, s .fits .width, even-fits (s .pre)) at (c .round-div .ensures)))
+
 mul-along : tie.Need-mul-along
-mul-along c = simp (toZ-ofZ, c .fits .start, c .fits .span) (start-fits (c .pre))
+mul-along c = let s = c .before in simp (toZ-ofZ, s .fits .start, s .fits .span) (start-fits (s .pre))
 
 along-requires : tie.Need-along-requires
-along-requires c κs = simp (toZ-ofZ, c .fits .start, c .fits .span, c .fits .change, c .fits .distance, start-fits (c .pre)) (side-along (c .pre))
+along-requires c κs = let s = c .before in simp (toZ-ofZ, s .fits .start, s .fits .span, s .fits .change, s .fits .distance, start-fits (s .pre)) (side-along (s .pre))
 
 module _ (c : tie.After-along) where
   abbrev s : tie.Start
-  s = c .before
+  s = c .before .before
 
   over-fits : SFits w64 (c .along .result)
   over-fits = record { sfits = c .along .ok }
@@ -23,20 +37,29 @@ module _ (c : tie.After-along) where
   over-is : c .along .result ≡ s .args .start *ℤ s .args .span +ℤ s .args .change *ℤ s .args .distance
   over-is = simp (toZ-ofZ, s .fits .start, s .fits .span, s .fits .change, s .fits .distance, start-fits (s .pre)) at (c .along .ensures)
 
-round-div-requires : tie.Need-round-div-requires
-round-div-requires c κs = let s = c .before in simp (toZ-ofZ, s .fits .span) (s .pre .span-low)
+round-div-requires-2 : tie.Need-round-div-requires-2
+round-div-requires-2 c κs = let s = s c in simp (toZ-ofZ, s .fits .span) (s .pre .span-low)
 
 drop-of-requires : tie.Need-drop-of-requires
-drop-of-requires c κs = let b = c .before in let s = b .before in simp (toZ-ofZ, over-fits b, s .fits .span, s .fits .width) (side-lane (s .pre) (over-is b))
+drop-of-requires c κs = let b = c .before in let s = s b in simp (toZ-ofZ, over-fits b, s .fits .span, s .fits .width) (side-lane (s .pre) (over-is b))
 
-returns : tie.Need-returns
-returns c = let b = c .before .before in let s = b .before in
-    let j : SFits w64 (c .before .round-div .result) = record { sfits = c .before .round-div .ok } in
+returns-2 : tie.Need-returns-2
+returns-2 c = let b = c .before .before in let s = s b in
+    let j : SFits w64 (c .before .round-div2 .result) = record { sfits = c .before .round-div2 .ok } in
     let k : SFits w64 (c .drop-of .result) = record { sfits = c .drop-of .ok } in
     simp toZ-ofZ (side-answer (s .pre) (over-is b)
-    (simp (toZ-ofZ, over-fits b, s .fits .span) at (c .before .round-div .ensures))
+    (simp (toZ-ofZ, over-fits b, s .fits .span) at (c .before .round-div2 .ensures))
     (simp (toZ-ofZ, over-fits b, s .fits .span, s .fits .width) at (c .drop-of .ensures)))
 
 pub lane-at-spec : {M : Type 1} → statement M
 lane-at-spec =
-    tie.close (tie.spec mul-along along-requires round-div-requires drop-of-requires returns)
+    tie.close
+    (tie.spec
+    mul-round-div
+    round-div-requires
+    returns
+    mul-along
+    along-requires
+    round-div-requires-2
+    drop-of-requires
+    returns-2)

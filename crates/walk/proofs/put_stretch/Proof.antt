@@ -14,18 +14,18 @@ use Rattle.walk.proofs.put_stretch.Statement.{statement}
 use Rattle.walk.proofs.put_stretch.Tie as tie
 
 abbrev Inv-loop : tie.InvT-loop
-Inv-loop s x joint step out₀ at multiple₀ here₀ end₀ out multiple here end =
+Inv-loop pairs s x joint step out₀ at multiple₀ here₀ end₀ out multiple here end =
     AtStation step x joint here multiple
     × Going (rowsThatFit (lineIn s) (length out₀ - at) (stretchStations step x joint)) out₀ out at end (rowsThatFit (lineIn s) (length out₀ - end) (notBelow here (stretchStations step x joint)))
 
 abbrev μ-loop : tie.MeasureT-loop
-μ-loop s x joint step out₀ at multiple₀ here₀ end₀ out multiple here end = joint - here
+μ-loop pairs s x joint step out₀ at multiple₀ here₀ end₀ out multiple here end = joint - here
 
 abbrev Start : Type 0
 Start = tie.Start Inv-loop μ-loop
 
 stepped : (s : Start) → Stepped (s .args .step) (s .args .x) (s .args .joint)
-stepped s = s .pre .1 .0
+stepped s = s .pre .1 .1 .0
 
 first-multiple : (s : Start) → NextMultiple (s .args .step) (s .args .x) ((s .args .x / s .args .step + 1) * s .args .step)
 first-multiple s = multiple-first (s .args .step) (s .args .x) (stepped s .low)
@@ -44,7 +44,7 @@ loop-holds c =
     let s = c .before in
     let a = s .args in
     let e = from-all (a .x) (stretchStations (a .step) (a .x) (a .joint)) (λ z m. ascends-low (stretch-ascends (stepped s)) m) in
-    (station-first (stepped s), rw e (going-starts _ (a .out .now) (a .at) (s .pre .1 .1)))
+    (station-first (stepped s), rw e (going-starts _ (a .out .now) (a .at) (s .pre .1 .1 .1)))
 
 sub-if1 : tie.Need-sub-if1 Inv-loop μ-loop
 sub-if1 c = let g = c .before .loop .inv .1 in omega (arith, going-length g, g .room)
@@ -66,7 +66,7 @@ put-line-requires c κs =
     let s = c .before .before .before .before .before in
     let l = c .before .before .before .loop in
     let g = l .inv .1 in
-    (s .pre .0 (l .here) (l .inv .0 .from) (omega arith), omega (arith, going-length g, g .room))
+    (s .pre .0, (s .pre .1 .0 (l .here) (l .inv .0 .from) (omega arith), omega (arith, going-length g, g .room)))
 
 add-multiple-2 : tie.Need-add-multiple-2 Inv-loop μ-loop
 add-multiple-2 c =
