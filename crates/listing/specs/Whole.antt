@@ -11,6 +11,8 @@ use lib.Seq.{take-append-seam}
 use Rattle.number.specs.Reading.{Got, got, refused}
 use Rattle.road.specs.Base.{if_then_else_, joined}
 use Rattle.road.specs.File.{Road}
+use Rattle.road.specs.Held.{roadIn}
+use Rattle.road.specs.declared.Alignment.{Alignment}
 use Rattle.road.specs.Exact.{total}
 use Rattle.road.specs.Line.{line}
 use Rattle.road.specs.Listed.{listed}
@@ -26,7 +28,8 @@ use Rattle.walk.specs.Whole.{left-from, onward-listed, onward-beyond, done-left
 use Rattle.walk.specs.declared.Chunk.{Chunk}
 use Rattle.walk.specs.declared.Onward.{Onward}
 use Rattle.walk.specs.declared.Onward.the-variants.{From, Done}
-use Rattle.listing.specs.Chunks.{Listed, turnedAway, part, listOn, listAnswer, rowsOn, listBuffer}
+use Rattle.places.specs.Places.{Ready}
+use Rattle.listing.specs.Chunks.{Listed, turnedAway, part, listOn, listAnswer, rowsOn, listBuffer, list-accepted}
 
 -- the list from a station on; of a refused file its refusal
 abbrev pub restBy : ℕ → Got Road → List ℕ
@@ -129,6 +132,16 @@ module _ (f : List ℕ) (s : ℕ) (b : List ℕ) where
             ∙ append-nil (chunk r s (length b) .text)
             ∙ sym (ap (λ (k : ℕ). take k (listBuffer f s b)) n ∙ written r (p .end) (p .was) (p .room-left));
       }
+
+-- ---- an alignment that a file is accepted as
+pub record AcceptedAs (f : List ℕ) (a : Alignment) : Type 0 where
+  pub end : ℕ
+  pub was : got (roadIn a) end ≡ accepted f
+  pub ready : Ready a
+
+-- its parts are the file's
+pub part-as : {f : List ℕ} {a : Alignment} {given : Listed} (s : ℕ) (b : List ℕ) → AcceptedAs f a → given ≡ listOn s (length b) (got (roadIn a) 0) → given ≡ listAnswer f s (length b)
+part-as {f} {a} s b h e = e ∙ list-accepted f s b (roadIn a) (h .end) (h .was) .0
 
 -- ---- what a loop over the parts has handed on
 -- the text so far, and the list from the station to go on from, are the whole list

@@ -7,6 +7,7 @@ ghost use Rattle.decimal.specs.Decimal.{digits};
 ghost use Rattle.decimal.specs.Pairs.{pairTable};
 ghost use Rattle.decimal.specs.Written.{Wrote};
 ghost use Rattle.road.specs.Listing.{refusalLine};
+use acceptance::Outcome;
 use listing::ListAnswer;
 
 // Writes a number and the byte `after` behind it, from `at` on, and returns the place after that.
@@ -49,9 +50,15 @@ fn print_refusal(number: u32, place: usize) -> bool {
 
 // Writes the list of a file to standard output, or its refusal, by parts that the buffer has room for. Answers whether all of it was written.
 pub fn print_list(file: &[u8], out: &mut [u8]) -> bool {
+    let accepted = acceptance::accept(file);
+    let alignment = accepted.alignment;
+    let outcome = accepted.outcome;
+    if let Outcome::Refused(number, place) = outcome {
+        return print_refusal(number, place);
+    }
     let mut from: u64 = 0;
     loop {
-        match listing::list_rows(file, from, out) {
+        match listing::put_rows(alignment, from, out) {
             ListAnswer::Refused(number, place) => {
                 return print_refusal(number, place);
             }

@@ -7,8 +7,8 @@ use lib.IntN.{ℤ, pos, negsuc, _+ℤ_, _*ℤ_, natAbs}
 use lib.Signed.{_≤ℤ_, _<ℤ_}
 use mir.Syntax.{w64}
 use mir.Val.{SFits, ofZ}
-use Rattle.integers.specs.Bridge.{int, nat, _⊕_, _⊖_, _⊗_, le!, lt!, abs!, abs?, abs-add}
-use Rattle.integers.specs.Fraction.{_÷_, whole}
+use Rattle.integers.specs.Bridge.{int, nat, _⊖_, lt!, abs!, abs?, abs-add}
+use Rattle.integers.specs.Fraction.{_÷_}
 use Rattle.integers.specs.Rounding.{round, rounded}
 use Rattle.integers.specs.Width.{fits64, above-zero}
 use Rattle.road.specs.Exact.{Side, left, right}

@@ -9,10 +9,10 @@ use lib.Signed.{_<ℤ_}
 use mir.Syntax.{w64}
 use mir.Val.{SFits, ofZ, toZ}
 use mir.Facts.{toZ-ofZ}
-use Rattle.integers.specs.Bridge.{int, nat, _⊕_, _⊖_, _⊗_, eq!, le!, lt!, abs-add, abs-mul, abs-product}
+use Rattle.integers.specs.Bridge.{int, nat, _⊕_, _⊗_, eq!, eq?, le!, le?, lt!, abs-add, abs-mul, abs-product}
 use Rattle.integers.specs.Ring.{_:*_, ring, v0, v1, v2}
 use Rattle.integers.specs.Fraction.{_÷_}
-use Rattle.integers.specs.Rounding.{floor, round, rounded, round-scale, nearest-is}
+use Rattle.integers.specs.Rounding.{floor, round, rounded, round-scale, round-from, round-upto}
 use Rattle.integers.specs.Width.{fits64, divisor, above-zero}
 use Rattle.stretch.specs.Sizes.{InCurve, OfLane, OnSide, laneOf}
 use Rattle.stretch.specs.declared.Lane.{Lane}
@@ -32,11 +32,16 @@ pub is-zero : {a : ℤ} → SFits w64 a → ofZ w64 a ≡ 0 → a ≡ pos 0
 is-zero {a} f e = sym (toZ-ofZ f) ∙ ap (toZ w64) e
 
 -- a whole number rounds to itself, over any denominator
-pub round-whole : (a : ℤ) → a ≡ round a 1
-round-whole a = nearest-is (record { above = lt! (nat 2 ⊗ int a ⊖ nat 1) (nat 2 ⊗ int a) (omega arith); upto = le! (nat 2 ⊗ int a) (nat 2 ⊗ int a ⊕ nat 1) (omega arith) })
-
 pub round-multiple : {n : ℤ} (k : ℕ) (a : ℤ) → 0 < k → n ≡ pos k *ℤ a → a ≡ round n k
-round-multiple {n} k a p e = round-whole a ∙ round-scale k a 1 p (omega arith) ∙ ap₂ round (sym e) (let h : k * 1 ≡ k = omega arith in h)
+round-multiple {n} k a p e =
+    let r = round n k in
+    let h = eq? (int n) (nat k ⊗ int a) e in
+    let l = le? (int a) (int r) (round-from a p (le! (int a ⊗ nat k) (int n) (omega arith))) in
+    let u = le? (int r) (int a) (round-upto a p (le! (int n) (int a ⊗ nat k) (omega arith))) in
+    eq! (int a) (int r) (omega arith)
+
+pub round-whole : (a : ℤ) → a ≡ round a 1
+round-whole a = round-multiple 1 a (omega arith) (eq! (int a) (nat 1 ⊗ int a) (omega arith))
 
 -- what `along` computes
 module _ (start slope distance : ℤ) (h : natAbs start + natAbs slope * natAbs distance < 9223372036854775808) where
