@@ -42,9 +42,9 @@ fn read_input(buffer: &mut [u8]) -> Input
     Input::Bytes(done)
 }
 
-// The list of a file, by parts of 64 KB.
+// The list of a file, by parts of 128 KB.
 fn list(file: &[u8]) {
-    let mut out = [0u8; 65536];
+    let mut out = [0u8; 131072];
     let is_written = printing::print_list(file, &mut out);
     if !is_written {
         io::write_all(STDERR_FILENO, b"list: the list was not written whole\n");
