@@ -9,15 +9,6 @@ use Rattle.acceptance.specs.Acceptance.{asGotBy, outcome-under, accepted
 use Rattle.acceptance.proofs.accept.Statement.{statement}
 use Rattle.acceptance.proofs.accept.Tie as tie
 
-read-requires : tie.Need-read-requires
-read-requires c κs = search needs
-
-enum-known-end : tie.Need-enum-known-end
-enum-known-end c = search needs
-
-enum-known-end-2 : tie.Need-enum-known-end-2
-enum-known-end-2 c = search needs
-
 outcome-of-requires : tie.Need-outcome-of-requires
 outcome-of-requires c κs =
     let r = c .before .before .before .before in
@@ -40,6 +31,4 @@ returns-2 c =
     )
 
 pub accept-spec : {M : Type 1} → statement M
-accept-spec =
-    tie.close
-    (tie.spec read-requires enum-known-end enum-known-end-2 outcome-of-requires returns returns-2)
+accept-spec = tie.close (tie.spec (λ c _. search needs) (λ c. search needs) (λ c. search needs) outcome-of-requires returns returns-2)

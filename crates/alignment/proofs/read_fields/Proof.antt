@@ -16,10 +16,4 @@ returns c =
 pub read-fields-spec : {M : Type 1} → statement M
 read-fields-spec =
     tie.close
-    (tie.spec
-    (λ c _. search needs)
-    (λ c _. search needs)
-    (λ c _. search needs)
-    (λ c _. search needs)
-    (λ c _. search needs)
-    returns)
+    (tie.spec (λ c _. search needs) (λ c _. search needs) (λ c _. search needs) (λ c _. search needs) (λ c _. search needs) returns)

@@ -15,20 +15,8 @@ use Rattle.decimal.proofs.put_lead.Tie as tie
 three : (n : ℕ) → 100 ≤ n → n < 1000 → digits n ≡ (48 + n / 100) ∷ lastDigits 2 (n % 100)
 three n h l = digits-exact 2 n h (omega arith) ∙ ap (λ (x : List ℕ). (48 + n / 100) ∷ x) (sym (last-rest 2 n))
 
-cast-buf : tie.Need-cast-buf
-cast-buf c = search needs
-
-add-buf : tie.Need-add-buf
-add-buf c = search needs
-
 slice-write-buf : tie.Need-slice-write-buf
 slice-write-buf c = let s = c .before .before in let n = s .args .n in omega (arith, ap length (digits-one n (omega arith)), s .pre .1 .0)
-
-add-result : tie.Need-add-result
-add-result c = search needs
-
-same-length : tie.Need-same-length
-same-length c = search needs
 
 returns : tie.Need-returns
 returns c = let s = c .before .before in let n = s .args .n in let e = digits-one n (omega arith) in rw e (wrote-first (s .args .buf .now) (s .args .at) (48 + n) (omega (arith, ap length e, s .pre .1 .0)))
@@ -36,23 +24,11 @@ returns c = let s = c .before .before in let n = s .args .n in let e = digits-on
 put-pair-requires : tie.Need-put-pair-requires
 put-pair-requires c κs = let s = c .before .before .before .before in let n = s .args .n in (s .pre .0, (omega (arith, length-exact 1 n (omega arith) (omega arith), s .pre .1 .0), omega arith))
 
-same-length-2 : tie.Need-same-length-2
-same-length-2 c = search needs
-
 returns-2 : tie.Need-returns-2
 returns-2 c = let s = c .before .before .before .before .before .before .before in let n = s .args .n in rw (digits-full 1 n (omega arith) (omega arith)) (c .before .before .put-pair .ensures)
 
-cast-buf-2 : tie.Need-cast-buf-2
-cast-buf-2 c = search needs
-
-add-buf-2 : tie.Need-add-buf-2
-add-buf-2 c = search needs
-
 slice-write-buf-2 : tie.Need-slice-write-buf-2
 slice-write-buf-2 c = let s = c .before .before .before .before in let n = s .args .n in omega (arith, length-exact 2 n (omega arith) (omega arith), s .pre .1 .0)
-
-add-put-pair : tie.Need-add-put-pair
-add-put-pair c = search needs
 
 put-pair-requires-2 : tie.Need-put-pair-requires-2
 put-pair-requires-2 c κs = let s = c .before .before .before .before .before in let n = s .args .n in (s .pre .0, (simp length-set (omega (arith, length-exact 2 n (omega arith) (omega arith), s .pre .1 .0)), omega arith))
@@ -70,32 +46,12 @@ returns-3 c =
 put-four-requires : tie.Need-put-four-requires
 put-four-requires c κs = let s = c .before .before .before .before .before in let n = s .args .n in (s .pre .0, (omega (arith, length-exact 3 n (omega arith) (omega arith), s .pre .1 .0), s .pre .1 .1))
 
-same-length-4 : tie.Need-same-length-4
-same-length-4 c = search needs
-
 returns-4 : tie.Need-returns-4
 returns-4 c = let s = c .before .before .before .before .before .before .before .before in let n = s .args .n in rw (digits-full 3 n (omega arith) (omega arith)) (c .before .before .put-four .ensures)
 
 pub put-lead-spec : {M : Type 1} → statement M
 put-lead-spec =
     tie.close
-    (tie.spec
-    cast-buf
-    add-buf
-    slice-write-buf
-    add-result
-    same-length
-    returns
-    put-pair-requires
-    same-length-2
-    returns-2
-    cast-buf-2
-    add-buf-2
-    slice-write-buf-2
-    add-put-pair
-    put-pair-requires-2
-    same-length-3
-    returns-3
-    put-four-requires
-    same-length-4
-    returns-4)
+    (tie.spec (λ c. search needs) (λ c. search needs) slice-write-buf (λ c. search needs) (λ c. search needs) returns put-pair-requires
+    (λ c. search needs) returns-2 (λ c. search needs) (λ c. search needs) slice-write-buf-2 (λ c. search needs) put-pair-requires-2 same-length-3
+    returns-3 put-four-requires (λ c. search needs) returns-4)

@@ -48,9 +48,6 @@ module _ (c : tie.Else1) where
 slice-write-buf : tie.Need-slice-write-buf
 slice-write-buf c = omega (arith, ap length (spelt c), c .before .before .pre .1)
 
-add-put-digits : tie.Need-add-put-digits
-add-put-digits c = search needs
-
 sub-put-digits : tie.Need-sub-put-digits
 sub-put-digits c = let f = c .before .before .before .fits .v in simp toZ-ofZ (rest-fits (c .before))
 
@@ -75,25 +72,11 @@ cast-put-digits-2 c = let s = c .before .before .before in let f = s .fits .v in
 put-digits-requires-2 : tie.Need-put-digits-requires-2
 put-digits-requires-2 c κs = let s = c .before .before .before in let f = s .fits .v in (s .pre .0, simp toZ-ofZ (omega (arith, ap length (plain (c .before)), s .pre .1)))
 
-same-length-2 : tie.Need-same-length-2
-same-length-2 c = search needs
-
 returns-2 : tie.Need-returns-2
 returns-2 c = let t = c .before .before .before .before in let f = t .before .before .fits .v in rw (plain t) (simp toZ-ofZ at (c .before .before .put-digits2 .ensures))
 
 pub put-signed-spec : {M : Type 1} → statement M
 put-signed-spec =
     tie.close
-    (tie.spec
-    slice-write-buf
-    add-put-digits
-    sub-put-digits
-    cast-put-digits
-    add-put-digits-2
-    put-digits-requires
-    same-length
-    returns
-    cast-put-digits-2
-    put-digits-requires-2
-    same-length-2
-    returns-2)
+    (tie.spec slice-write-buf (λ c. search needs) sub-put-digits cast-put-digits add-put-digits-2 put-digits-requires same-length returns
+    cast-put-digits-2 put-digits-requires-2 (λ c. search needs) returns-2)

@@ -5,23 +5,11 @@ use borrow.Author.Needs.{needs}
 use Rattle.decimal.proofs.put_wide.Statement.{statement}
 use Rattle.decimal.proofs.put_wide.Tie as tie
 
-put-small-requires : tie.Need-put-small-requires
-put-small-requires c κs = search needs
-
-same-length : tie.Need-same-length
-same-length c = search needs
-
-returns : tie.Need-returns
-returns c = search needs
-
 put-small-requires-2 : tie.Need-put-small-requires-2
 put-small-requires-2 c κs = let s = c .before .before .before in (s .pre .0, (room-front 8 (s .args .n) (omega arith) (s .args .buf .now) (s .args .at) (s .pre .1 .0), omega arith))
 
 put-eight-requires : tie.Need-put-eight-requires
 put-eight-requires c κs = let s = c .before .before .before .before .before .before .before in (s .pre .0, (room-rest 8 (s .args .n) (omega arith) (s .args .buf .now) (s .args .at) (s .pre .1 .0) (c .before .before .before .put-small2 .ensures), omega arith))
-
-same-length-2 : tie.Need-same-length-2
-same-length-2 c = search needs
 
 returns-2 : tie.Need-returns-2
 returns-2 c = let s = c .before .before .before .before .before .before .before .before .before .before in wrote-parts 8 (s .args .n) (omega arith) (s .args .buf .now) (s .args .at) (s .pre .1 .0) (c .before .before .before .before .before .before .put-small2 .ensures) (c .before .before .put-eight .ensures)
@@ -29,11 +17,4 @@ returns-2 c = let s = c .before .before .before .before .before .before .before 
 pub put-wide-spec : {M : Type 1} → statement M
 put-wide-spec =
     tie.close
-    (tie.spec
-    put-small-requires
-    same-length
-    returns
-    put-small-requires-2
-    put-eight-requires
-    same-length-2
-    returns-2)
+    (tie.spec (λ c _. search needs) (λ c. search needs) (λ c. search needs) put-small-requires-2 put-eight-requires (λ c. search needs) returns-2)

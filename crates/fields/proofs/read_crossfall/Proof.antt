@@ -18,5 +18,4 @@ returns c =
     simp (same-left, same-right) (chained _ (station .ensures) (chained _ (left .ensures) (chained _ (right .ensures) gives)))
 
 pub read-crossfall-spec : {M : Type 1} → statement M
-read-crossfall-spec =
-    tie.close (tie.spec (λ c _. search needs) (λ c _. search needs) (λ c _. search needs) returns)
+read-crossfall-spec = tie.close (tie.spec (λ c _. search needs) (λ c _. search needs) (λ c _. search needs) returns)

@@ -17,5 +17,4 @@ returns c =
     simp same (chained _ (kind .ensures) (chained _ (length .ensures) (chained _ (radius .ensures) gives)))
 
 pub read-element-spec : {M : Type 1} → statement M
-read-element-spec =
-    tie.close (tie.spec (λ c _. search needs) (λ c _. search needs) (λ c _. search needs) returns)
+read-element-spec = tie.close (tie.spec (λ c _. search needs) (λ c _. search needs) (λ c _. search needs) returns)

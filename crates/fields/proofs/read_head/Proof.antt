@@ -14,11 +14,4 @@ returns c =
     chained _ (class .ensures) (chained _ (terrain .ensures) (chained _ (step .ensures) (chained _ (ramp .ensures) gives)))
 
 pub read-head-spec : {M : Type 1} → statement M
-read-head-spec =
-    tie.close
-    (tie.spec
-    (λ c _. search needs)
-    (λ c _. search needs)
-    (λ c _. search needs)
-    (λ c _. search needs)
-    returns)
+read-head-spec = tie.close (tie.spec (λ c _. search needs) (λ c _. search needs) (λ c _. search needs) (λ c _. search needs) returns)

@@ -17,5 +17,4 @@ returns c =
     simp same (chained _ (length .ensures) (chained _ (grade .ensures) (chained _ (half .ensures) gives)))
 
 pub read-tangent-spec : {M : Type 1} → statement M
-read-tangent-spec =
-    tie.close (tie.spec (λ c _. search needs) (λ c _. search needs) (λ c _. search needs) returns)
+read-tangent-spec = tie.close (tie.spec (λ c _. search needs) (λ c _. search needs) (λ c _. search needs) returns)

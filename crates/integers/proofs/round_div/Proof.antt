@@ -9,12 +9,6 @@ use Rattle.integers.specs.Width.{parts-sum, divided-parts}
 use Rattle.integers.proofs.round_div.Statement.{statement}
 use Rattle.integers.proofs.round_div.Tie as tie
 
-div-floor-requires : tie.Need-div-floor-requires
-div-floor-requires c κs = search needs
-
-rem-floor-requires : tie.Need-rem-floor-requires
-rem-floor-requires c κs = search needs
-
 module _ (c : tie.After-rem-floor) where
   q-is : c .before .div-floor .result ≡ floor (c .before .before .args .n) (natAbs (c .before .before .args .d))
   q-is = let s = c .before .before in let f = s .fits .n in let g = s .fits .d in simp toZ-ofZ at (c .before .div-floor .ensures)
@@ -38,4 +32,4 @@ returns c = let s = c .before .before .before in let f = s .fits .n in let g = s
     simp toZ-ofZ ((simp toZ-ofZ at (c .round-parts .ensures)) ∙ ap (λ (x : ℤ). round x (natAbs (s .args .d))) (parts-sum (s .args .n) (s .args .d) (s .pre) (q-is (c .before)) (m-is (c .before))))
 
 pub round-div-spec : {M : Type 1} → statement M
-round-div-spec = tie.close (tie.spec div-floor-requires rem-floor-requires round-parts-requires returns)
+round-div-spec = tie.close (tie.spec (λ c _. search needs) (λ c _. search needs) round-parts-requires returns)

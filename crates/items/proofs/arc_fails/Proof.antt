@@ -7,15 +7,6 @@ use borrow.Author.Needs.{needs}
 use Rattle.items.proofs.arc_fails.Statement.{statement}
 use Rattle.items.proofs.arc_fails.Tie as tie
 
-changes-in-requires : tie.Need-changes-in-requires
-changes-in-requires c κs = search needs
-
-cast-result : tie.Need-cast-result
-cast-result c = search needs
-
-is-allowed-requires : tie.Need-is-allowed-requires
-is-allowed-requires c κs = search needs
-
 returns : tie.Need-returns
 unfolding arcTest
 returns c =
@@ -28,5 +19,4 @@ unfolding arcTest
 returns-2 c = rw (ne-eqb (c .before .before .args .e .kind) 1 (c .if1 .left))
 
 pub arc-fails-spec : {M : Type 1} → statement M
-arc-fails-spec =
-    tie.close (tie.spec changes-in-requires cast-result is-allowed-requires returns returns-2)
+arc-fails-spec = tie.close (tie.spec (λ c _. search needs) (λ c. search needs) (λ c _. search needs) returns returns-2)

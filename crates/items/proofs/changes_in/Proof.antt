@@ -6,18 +6,6 @@ use borrow.Author.Needs.{needs}
 use Rattle.items.proofs.changes_in.Statement.{statement}
 use Rattle.items.proofs.changes_in.Tie as tie
 
-are-equal-requires : tie.Need-are-equal-requires
-are-equal-requires c κs = search needs
-
-are-equal-requires-2 : tie.Need-are-equal-requires-2
-are-equal-requires-2 c κs = search needs
-
-cast-result : tie.Need-cast-result
-cast-result c = search needs
-
-cast-result-2 : tie.Need-cast-result-2
-cast-result-2 c = search needs
-
 returns : tie.Need-returns
 unfolding changesIn
 returns c =
@@ -30,5 +18,4 @@ returns c =
     rw (c .before .before .before .before .before .are-equal .ensures, c .before .before .are-equal2 .ensures, toZ-ofZ f, toZ-ofZ g, toZ-ofZ h, toZ-ofZ k)
 
 pub changes-in-spec : {M : Type 1} → statement M
-changes-in-spec =
-    tie.close (tie.spec are-equal-requires are-equal-requires-2 cast-result cast-result-2 returns)
+changes-in-spec = tie.close (tie.spec (λ c _. search needs) (λ c _. search needs) (λ c. search needs) (λ c. search needs) returns)

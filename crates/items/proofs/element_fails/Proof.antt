@@ -5,21 +5,6 @@ use borrow.Author.Needs.{needs}
 use Rattle.items.proofs.element_fails.Statement.{statement}
 use Rattle.items.proofs.element_fails.Tie as tie
 
-is-wrong-kind-requires : tie.Need-is-wrong-kind-requires
-is-wrong-kind-requires c κs = search needs
-
-is-long-straight-requires : tie.Need-is-long-straight-requires
-is-long-straight-requires c κs = search needs
-
-is-tight-arc-requires : tie.Need-is-tight-arc-requires
-is-tight-arc-requires c κs = search needs
-
-is-short-arc-requires : tie.Need-is-short-arc-requires
-is-short-arc-requires c κs = search needs
-
-is-short-clothoid-requires : tie.Need-is-short-clothoid-requires
-is-short-clothoid-requires c κs = search needs
-
 returns : tie.Need-returns
 unfolding elementTest
 returns c = let h : c .before .args .rule ≡ 5 = c .match .keys1 in rw h
@@ -50,15 +35,5 @@ returns-6 c =
 pub element-fails-spec : {M : Type 1} → statement M
 element-fails-spec =
     tie.close
-    (tie.spec
-    is-wrong-kind-requires
-    is-long-straight-requires
-    is-tight-arc-requires
-    is-short-arc-requires
-    is-short-clothoid-requires
-    returns
-    returns-2
-    returns-3
-    returns-4
-    returns-5
-    returns-6)
+    (tie.spec (λ c _. search needs) (λ c _. search needs) (λ c _. search needs) (λ c _. search needs) (λ c _. search needs) returns returns-2
+    returns-3 returns-4 returns-5 returns-6)

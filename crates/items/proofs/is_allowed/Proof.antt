@@ -4,15 +4,9 @@ use borrow.Author.Needs.{needs}
 use Rattle.items.proofs.is_allowed.Statement.{statement}
 use Rattle.items.proofs.is_allowed.Tie as tie
 
-is-superelevated-requires : tie.Need-is-superelevated-requires
-is-superelevated-requires c κs = search needs
-
-is-crowned-requires : tie.Need-is-crowned-requires
-is-crowned-requires c κs = search needs
-
 returns : tie.Need-returns
 unfolding allowedOn
 returns c = rw (c .before .is-superelevated .ensures, c .is-crowned .ensures, toZ-ofZ (c .before .before .fits .radius))
 
 pub is-allowed-spec : {M : Type 1} → statement M
-is-allowed-spec = tie.close (tie.spec is-superelevated-requires is-crowned-requires returns)
+is-allowed-spec = tie.close (tie.spec (λ c _. search needs) (λ c _. search needs) returns)

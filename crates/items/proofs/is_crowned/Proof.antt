@@ -5,15 +5,6 @@ use borrow.Author.Needs.{needs}
 use Rattle.items.proofs.is_crowned.Statement.{statement}
 use Rattle.items.proofs.is_crowned.Tie as tie
 
-are-equal-requires : tie.Need-are-equal-requires
-are-equal-requires c κs = search needs
-
-are-equal-requires-2 : tie.Need-are-equal-requires-2
-are-equal-requires-2 c κs = search needs
-
-size-requires : tie.Need-size-requires
-size-requires c κs = search needs
-
 returns : tie.Need-returns
 returns c =
     let s = c .before .before .before .before .before .before .before in
@@ -22,5 +13,4 @@ returns c =
     rw (c .before .before .before .before .before .are-equal .ensures, c .before .before .before .are-equal2 .ensures, c .before .size .ensures, toZ-ofZ f, toZ-ofZ g, toZ-ofZ (s .fits .radius))
 
 pub is-crowned-spec : {M : Type 1} → statement M
-is-crowned-spec =
-    tie.close (tie.spec are-equal-requires are-equal-requires-2 size-requires returns)
+is-crowned-spec = tie.close (tie.spec (λ c _. search needs) (λ c _. search needs) (λ c _. search needs) returns)

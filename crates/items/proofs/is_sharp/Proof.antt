@@ -6,27 +6,6 @@ use borrow.Author.Needs.{needs}
 use Rattle.items.proofs.is_sharp.Statement.{statement}
 use Rattle.items.proofs.is_sharp.Tie as tie
 
-rises-requires : tie.Need-rises-requires
-rises-requires c κs = search needs
-
-vertical-radius-requires : tie.Need-vertical-radius-requires
-vertical-radius-requires c κs = search needs
-
-cast-result : tie.Need-cast-result
-cast-result c = search needs
-
-mul-result : tie.Need-mul-result
-mul-result c = search needs
-
-mul-result-2 : tie.Need-mul-result-2
-mul-result-2 c = search needs
-
-apart-requires : tie.Need-apart-requires
-apart-requires c κs = search needs
-
-product-requires : tie.Need-product-requires
-product-requires c κs = search needs
-
 returns : tie.Need-returns
 unfolding sharpIn
 returns c =
@@ -38,12 +17,5 @@ returns c =
 pub is-sharp-spec : {M : Type 1} → statement M
 is-sharp-spec =
     tie.close
-    (tie.spec
-    rises-requires
-    vertical-radius-requires
-    cast-result
-    mul-result
-    mul-result-2
-    apart-requires
-    product-requires
-    returns)
+    (tie.spec (λ c _. search needs) (λ c _. search needs) (λ c. search needs) (λ c. search needs) (λ c. search needs) (λ c _. search needs)
+    (λ c _. search needs) returns)

@@ -6,18 +6,6 @@ use borrow.Author.Needs.{needs}
 use Rattle.items.proofs.is_short_clothoid.Statement.{statement}
 use Rattle.items.proofs.is_short_clothoid.Tie as tie
 
-own-radius-requires : tie.Need-own-radius-requires
-own-radius-requires c κs = search needs
-
-size-requires : tie.Need-size-requires
-size-requires c κs = search needs
-
-product-requires : tie.Need-product-requires
-product-requires c κs = search needs
-
-product-requires-2 : tie.Need-product-requires-2
-product-requires-2 c κs = search needs
-
 returns : tie.Need-returns
 unfolding shortClothoidIn
 returns c =
@@ -25,6 +13,4 @@ returns c =
     rw (c .before .product .ensures, c .product2 .ensures, c .before .before .before .size .ensures, toZ-ofZ k, c .before .before .before .before .own-radius .ensures)
 
 pub is-short-clothoid-spec : {M : Type 1} → statement M
-is-short-clothoid-spec =
-    tie.close
-    (tie.spec own-radius-requires size-requires product-requires product-requires-2 returns)
+is-short-clothoid-spec = tie.close (tie.spec (λ c _. search needs) (λ c _. search needs) (λ c _. search needs) (λ c _. search needs) returns)

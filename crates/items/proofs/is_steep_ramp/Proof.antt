@@ -6,15 +6,6 @@ use borrow.Author.Needs.{needs}
 use Rattle.items.proofs.is_steep_ramp.Statement.{statement}
 use Rattle.items.proofs.is_steep_ramp.Tie as tie
 
-above-requires : tie.Need-above-requires
-above-requires c κs = search needs
-
-is-steep-side-requires : tie.Need-is-steep-side-requires
-is-steep-side-requires c κs = search needs
-
-is-steep-side-requires-2 : tie.Need-is-steep-side-requires-2
-is-steep-side-requires-2 c κs = search needs
-
 returns : tie.Need-returns
 unfolding steepRampIn
 returns c =
@@ -27,5 +18,4 @@ returns c =
     rw (c .before .before .before .is-steep-side .ensures, c .is-steep-side2 .ensures, c .before .before .before .before .before .before .above .ensures, toZ-ofZ f, toZ-ofZ g, toZ-ofZ h, toZ-ofZ k)
 
 pub is-steep-ramp-spec : {M : Type 1} → statement M
-is-steep-ramp-spec =
-    tie.close (tie.spec above-requires is-steep-side-requires is-steep-side-requires-2 returns)
+is-steep-ramp-spec = tie.close (tie.spec (λ c _. search needs) (λ c _. search needs) (λ c _. search needs) returns)

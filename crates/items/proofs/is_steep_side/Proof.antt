@@ -3,18 +3,8 @@ use borrow.Author.Needs.{needs}
 use Rattle.items.proofs.is_steep_side.Statement.{statement}
 use Rattle.items.proofs.is_steep_side.Tie as tie
 
-product-requires : tie.Need-product-requires
-product-requires c κs = search needs
-
-apart-requires : tie.Need-apart-requires
-apart-requires c κs = search needs
-
-product-requires-2 : tie.Need-product-requires-2
-product-requires-2 c κs = search needs
-
 returns : tie.Need-returns
 returns c = rw (c .before .before .product .ensures, c .product2 .ensures, c .before .apart .ensures, toZ-ofZ (c .before .before .before .fits .from), toZ-ofZ (c .before .before .before .fits .to))
 
 pub is-steep-side-spec : {M : Type 1} → statement M
-is-steep-side-spec =
-    tie.close (tie.spec product-requires apart-requires product-requires-2 returns)
+is-steep-side-spec = tie.close (tie.spec (λ c _. search needs) (λ c _. search needs) (λ c _. search needs) returns)

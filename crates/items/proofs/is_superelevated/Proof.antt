@@ -5,12 +5,6 @@ use borrow.Author.Needs.{needs}
 use Rattle.items.proofs.is_superelevated.Statement.{statement}
 use Rattle.items.proofs.is_superelevated.Tie as tie
 
-are-opposite-requires : tie.Need-are-opposite-requires
-are-opposite-requires c κs = search needs
-
-inner-side-requires : tie.Need-inner-side-requires
-inner-side-requires c κs = search needs
-
 returns : tie.Need-returns
 returns c =
     let s = c .before .before .before .before in
@@ -20,4 +14,4 @@ returns c =
     rw (c .before .are-opposite .ensures, toZ-ofZ f, toZ-ofZ g, toZ-ofZ k, c .inner-side .ensures, toZ-ofZ (s .fits .radius))
 
 pub is-superelevated-spec : {M : Type 1} → statement M
-is-superelevated-spec = tie.close (tie.spec are-opposite-requires inner-side-requires returns)
+is-superelevated-spec = tie.close (tie.spec (λ c _. search needs) (λ c _. search needs) returns)

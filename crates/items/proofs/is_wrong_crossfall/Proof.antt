@@ -6,12 +6,6 @@ use borrow.Author.Needs.{needs}
 use Rattle.items.proofs.is_wrong_crossfall.Statement.{statement}
 use Rattle.items.proofs.is_wrong_crossfall.Tie as tie
 
-is-wrong-side-requires : tie.Need-is-wrong-side-requires
-is-wrong-side-requires c κs = search needs
-
-is-wrong-side-requires-2 : tie.Need-is-wrong-side-requires-2
-is-wrong-side-requires-2 c κs = search needs
-
 returns : tie.Need-returns
 unfolding wrongCrossfallIn
 returns c =
@@ -21,5 +15,4 @@ returns c =
     rw (c .before .before .is-wrong-side .ensures, c .is-wrong-side2 .ensures, toZ-ofZ f, toZ-ofZ g)
 
 pub is-wrong-crossfall-spec : {M : Type 1} → statement M
-is-wrong-crossfall-spec =
-    tie.close (tie.spec is-wrong-side-requires is-wrong-side-requires-2 returns)
+is-wrong-crossfall-spec = tie.close (tie.spec (λ c _. search needs) (λ c _. search needs) returns)

@@ -4,12 +4,6 @@ use borrow.Author.Needs.{needs}
 use Rattle.items.proofs.is_wrong_kind.Statement.{statement}
 use Rattle.items.proofs.is_wrong_kind.Tie as tie
 
-mul-result : tie.Need-mul-result
-mul-result c = search needs
-
-array-read-result : tie.Need-array-read-result
-array-read-result c = search needs
-
 returns : tie.Need-returns
 unfolding wrongKindIn
 returns c = rw (lt-ltb (c .before .before .args .i) (c .before .before .args .count) (c .before .if1 .taken))
@@ -19,4 +13,4 @@ unfolding wrongKindIn
 returns-2 c = rw (le-ltb (c .before .args .i) (c .before .args .count) (c .if1 .left))
 
 pub is-wrong-kind-spec : {M : Type 1} → statement M
-is-wrong-kind-spec = tie.close (tie.spec mul-result array-read-result returns returns-2)
+is-wrong-kind-spec = tie.close (tie.spec (λ c. search needs) (λ c. search needs) returns returns-2)

@@ -4,12 +4,9 @@ use borrow.Author.Needs.{needs}
 use Rattle.items.proofs.is_wrong_side.Statement.{statement}
 use Rattle.items.proofs.is_wrong_side.Tie as tie
 
-size-requires : tie.Need-size-requires
-size-requires c κs = search needs
-
 returns : tie.Need-returns
 unfolding wrongSide
 returns c = rw (c .size .ensures, toZ-ofZ (c .before .fits .crossfall))
 
 pub is-wrong-side-spec : {M : Type 1} → statement M
-is-wrong-side-spec = tie.close (tie.spec size-requires returns)
+is-wrong-side-spec = tie.close (tie.spec (λ c _. search needs) returns)

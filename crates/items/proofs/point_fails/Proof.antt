@@ -5,15 +5,6 @@ use borrow.Author.Needs.{needs}
 use Rattle.items.proofs.point_fails.Statement.{statement}
 use Rattle.items.proofs.point_fails.Tie as tie
 
-is-misplaced-requires : tie.Need-is-misplaced-requires
-is-misplaced-requires c κs = search needs
-
-is-wrong-crossfall-requires : tie.Need-is-wrong-crossfall-requires
-is-wrong-crossfall-requires c κs = search needs
-
-is-steep-ramp-requires : tie.Need-is-steep-ramp-requires
-is-steep-ramp-requires c κs = search needs
-
 returns : tie.Need-returns
 unfolding pointTest
 returns c = let h : c .before .before .args .rule ≡ 16 = c .before .match .keys1 in rw h (c .is-misplaced .ensures)
@@ -30,12 +21,4 @@ returns-3 c =
     rw (ne-eqb rule 16 (r .0 .1), ne-eqb rule 17 (r .1)) (c .is-steep-ramp .ensures)
 
 pub point-fails-spec : {M : Type 1} → statement M
-point-fails-spec =
-    tie.close
-    (tie.spec
-    is-misplaced-requires
-    is-wrong-crossfall-requires
-    is-steep-ramp-requires
-    returns
-    returns-2
-    returns-3)
+point-fails-spec = tie.close (tie.spec (λ c _. search needs) (λ c _. search needs) (λ c _. search needs) returns returns-2 returns-3)

@@ -5,15 +5,6 @@ use borrow.Author.Needs.{needs}
 use Rattle.items.proofs.tangent_fails.Statement.{statement}
 use Rattle.items.proofs.tangent_fails.Tie as tie
 
-is-steep-requires : tie.Need-is-steep-requires
-is-steep-requires c κs = search needs
-
-is-short-tangent-requires : tie.Need-is-short-tangent-requires
-is-short-tangent-requires c κs = search needs
-
-is-sharp-requires : tie.Need-is-sharp-requires
-is-sharp-requires c κs = search needs
-
 returns : tie.Need-returns
 unfolding tangentTest
 returns c = let h : c .before .before .args .rule ≡ 13 = c .before .match .keys1 in rw h (c .is-steep .ensures)
@@ -30,12 +21,4 @@ returns-3 c =
     rw (ne-eqb rule 13 (r .0 .1), ne-eqb rule 14 (r .1)) (c .is-sharp .ensures)
 
 pub tangent-fails-spec : {M : Type 1} → statement M
-tangent-fails-spec =
-    tie.close
-    (tie.spec
-    is-steep-requires
-    is-short-tangent-requires
-    is-sharp-requires
-    returns
-    returns-2
-    returns-3)
+tangent-fails-spec = tie.close (tie.spec (λ c _. search needs) (λ c _. search needs) (λ c _. search needs) returns returns-2 returns-3)

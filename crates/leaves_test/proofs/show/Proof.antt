@@ -14,12 +14,6 @@ use Rattle.decimal.specs.Written.{Wrote, wrote-length}
 use Rattle.leaves_test.proofs.show.Statement.{statement}
 use Rattle.leaves_test.proofs.show.Tie as tie
 
-pairs-requires : tie.Need-pairs-requires
-pairs-requires c κs = search needs
-
-slice-aggregate-put-field : tie.Need-slice-aggregate-put-field
-slice-aggregate-put-field c = search needs
-
 put-field-requires : tie.Need-put-field-requires
 put-field-requires c κs =
     let s = c .before .before .before in
@@ -41,20 +35,8 @@ array-share-prefix-line c = fits (c .before)
 slice-aggregate-write-all : tie.Need-slice-aggregate-write-all
 slice-aggregate-write-all c = sym (length-take-le _ _ (fits (c .before .before)))
 
-write-all-requires : tie.Need-write-all-requires
-write-all-requires c κs = search needs
-
-returns : tie.Need-returns
-returns c = search needs
-
 pub show-spec : {M : Type 1} → statement M
 show-spec =
     tie.close
-    (tie.spec
-    pairs-requires
-    slice-aggregate-put-field
-    put-field-requires
-    array-share-prefix-line
-    slice-aggregate-write-all
-    write-all-requires
-    returns)
+    (tie.spec (λ c _. search needs) (λ c. search needs) put-field-requires array-share-prefix-line slice-aggregate-write-all (λ c _. search needs)
+    (λ c. search needs))

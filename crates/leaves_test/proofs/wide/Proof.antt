@@ -9,8 +9,5 @@ use Rattle.leaves_test.proofs.wide.Tie as tie
 cast-result : tie.Need-cast-result
 cast-result c = let f = c .fits .v in let l = f .sfits in simp toZ-ofZ (record { sfits = omega arith })
 
-returns : tie.Need-returns
-returns c = search needs
-
 pub wide-spec : {M : Type 1} → statement M
-wide-spec = tie.close (tie.spec cast-result returns)
+wide-spec = tie.close (tie.spec cast-result (λ c. search needs))

@@ -6,18 +6,9 @@ use borrow.Author.Needs.{needs}
 use Rattle.limits.proofs.limits_at.Statement.{statement}
 use Rattle.limits.proofs.limits_at.Tie as tie
 
-above-requires : tie.Need-above-requires
-above-requires c κs = search needs
-
-cast-limits-in : tie.Need-cast-limits-in
-cast-limits-in c = search needs
-
-limits-in-requires : tie.Need-limits-in-requires
-limits-in-requires c κs = search needs
-
 returns : tie.Need-returns
 unfolding limitsInRow limitsAt
 returns c = c .limits-in .ensures ∙ ap (λ (n : ℕ). limitsInRow (n / 10)) (c .before .above .ensures)
 
 pub limits-at-spec : {M : Type 1} → statement M
-limits-at-spec = tie.close (tie.spec above-requires cast-limits-in limits-in-requires returns)
+limits-at-spec = tie.close (tie.spec (λ c _. search needs) (λ c. search needs) (λ c _. search needs) returns)

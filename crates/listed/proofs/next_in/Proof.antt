@@ -9,27 +9,6 @@ use Rattle.listed.specs.Least.{asOption, leastWith, allCurveStations, ne
 use Rattle.listed.proofs.next_in.Statement.{statement}
 use Rattle.listed.proofs.next_in.Tie as tie
 
-with-points-requires : tie.Need-with-points-requires
-with-points-requires c κs = search needs
-
-with-curves-requires : tie.Need-with-curves-requires
-with-curves-requires c κs = search needs
-
-with-element-ends-requires : tie.Need-with-element-ends-requires
-with-element-ends-requires c κs = search needs
-
-cast-with-multiples : tie.Need-cast-with-multiples
-cast-with-multiples c = search needs
-
-with-multiples-requires : tie.Need-with-multiples-requires
-with-multiples-requires c κs = search needs
-
-with-station-requires : tie.Need-with-station-requires
-with-station-requires c κs = search needs
-
-with-station-requires-2 : tie.Need-with-station-requires-2
-with-station-requires-2 c κs = search needs
-
 returns : tie.Need-returns
 returns c =
     let m = c .before .before in
@@ -53,12 +32,5 @@ returns c =
 pub next-in-spec : {M : Type 1} → statement M
 next-in-spec =
     tie.close
-    (tie.spec
-    with-points-requires
-    with-curves-requires
-    with-element-ends-requires
-    cast-with-multiples
-    with-multiples-requires
-    with-station-requires
-    with-station-requires-2
-    returns)
+    (tie.spec (λ c _. search needs) (λ c _. search needs) (λ c _. search needs) (λ c. search needs) (λ c _. search needs) (λ c _. search needs)
+    (λ c _. search needs) returns)

@@ -31,33 +31,6 @@ loop-holds : tie.Need-loop-holds Inv-loop μ-loop
 unfolding tangentStart sumOf
 loop-holds c = (c .pre .profile, refl, refl, omega arith, counting-starts _ _ _ _)
 
-add-loop : tie.Need-add-loop Inv-loop μ-loop
-add-loop c = search needs
-
-mul-t : tie.Need-mul-t Inv-loop μ-loop
-mul-t c = search needs
-
-element-copy-out-t : tie.Need-element-copy-out-t Inv-loop μ-loop
-element-copy-out-t c = search needs
-
-cast-vertex : tie.Need-cast-vertex Inv-loop μ-loop
-cast-vertex c = search needs
-
-add-vertex : tie.Need-add-vertex Inv-loop μ-loop
-add-vertex c = search needs
-
-cast-with-curve : tie.Need-cast-with-curve Inv-loop μ-loop
-cast-with-curve c = search needs
-
-with-curve-requires : tie.Need-with-curve-requires Inv-loop μ-loop
-with-curve-requires c κs = search needs
-
-add-i : tie.Need-add-i Inv-loop μ-loop
-add-i c = search needs
-
-loop-less : tie.Need-loop-less Inv-loop μ-loop
-loop-less c = search needs
-
 loop-again : tie.Need-loop-again Inv-loop μ-loop
 unfolding curveStations
 loop-again c =
@@ -87,18 +60,5 @@ returns c =
 pub with-curves-spec : {M : Type 1} → statement M
 with-curves-spec =
     tie.close
-    (tie.spec
-    Inv-loop
-    μ-loop
-    loop-holds
-    add-loop
-    mul-t
-    element-copy-out-t
-    cast-vertex
-    add-vertex
-    cast-with-curve
-    with-curve-requires
-    add-i
-    loop-less
-    loop-again
-    returns)
+    (tie.spec Inv-loop μ-loop loop-holds (λ c. search needs) (λ c. search needs) (λ c. search needs) (λ c. search needs) (λ c. search needs)
+    (λ c. search needs) (λ c _. search needs) (λ c. search needs) (λ c. search needs) loop-again returns)

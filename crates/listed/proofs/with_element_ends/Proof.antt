@@ -31,27 +31,6 @@ loop-holds : tie.Need-loop-holds Inv-loop μ-loop
 unfolding elementStart sumOf
 loop-holds c = (c .pre .plan, refl, refl, omega arith, counting-starts _ _ _ _)
 
-mul-e : tie.Need-mul-e Inv-loop μ-loop
-mul-e c = search needs
-
-element-copy-out-e : tie.Need-element-copy-out-e Inv-loop μ-loop
-element-copy-out-e c = search needs
-
-cast-end : tie.Need-cast-end Inv-loop μ-loop
-cast-end c = search needs
-
-add-end : tie.Need-add-end Inv-loop μ-loop
-add-end c = search needs
-
-with-station-requires : tie.Need-with-station-requires Inv-loop μ-loop
-with-station-requires c κs = search needs
-
-add-i : tie.Need-add-i Inv-loop μ-loop
-add-i c = search needs
-
-loop-less : tie.Need-loop-less Inv-loop μ-loop
-loop-less c = search needs
-
 loop-again : tie.Need-loop-again Inv-loop μ-loop
 unfolding leastWith
 loop-again c =
@@ -87,16 +66,5 @@ returns c =
 pub with-element-ends-spec : {M : Type 1} → statement M
 with-element-ends-spec =
     tie.close
-    (tie.spec
-    Inv-loop
-    μ-loop
-    loop-holds
-    mul-e
-    element-copy-out-e
-    cast-end
-    add-end
-    with-station-requires
-    add-i
-    loop-less
-    loop-again
-    returns)
+    (tie.spec Inv-loop μ-loop loop-holds (λ c. search needs) (λ c. search needs) (λ c. search needs) (λ c. search needs) (λ c _. search needs)
+    (λ c. search needs) (λ c. search needs) loop-again returns)

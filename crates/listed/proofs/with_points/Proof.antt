@@ -28,24 +28,6 @@ long c = search (needs, unmapped)
 loop-holds : tie.Need-loop-holds Inv-loop μ-loop
 loop-holds c = (c .pre .points, refl, counting-starts _ _ _ none)
 
-mul-p : tie.Need-mul-p Inv-loop μ-loop
-mul-p c = search needs
-
-element-copy-out-p : tie.Need-element-copy-out-p Inv-loop μ-loop
-element-copy-out-p c = search needs
-
-cast-with-station : tie.Need-cast-with-station Inv-loop μ-loop
-cast-with-station c = search needs
-
-with-station-requires : tie.Need-with-station-requires Inv-loop μ-loop
-with-station-requires c κs = search needs
-
-add-i : tie.Need-add-i Inv-loop μ-loop
-add-i c = search needs
-
-loop-less : tie.Need-loop-less Inv-loop μ-loop
-loop-less c = search needs
-
 loop-again : tie.Need-loop-again Inv-loop μ-loop
 unfolding leastWith
 loop-again c =
@@ -66,15 +48,5 @@ returns c =
 pub with-points-spec : {M : Type 1} → statement M
 with-points-spec =
     tie.close
-    (tie.spec
-    Inv-loop
-    μ-loop
-    loop-holds
-    mul-p
-    element-copy-out-p
-    cast-with-station
-    with-station-requires
-    add-i
-    loop-less
-    loop-again
-    returns)
+    (tie.spec Inv-loop μ-loop loop-holds (λ c. search needs) (λ c. search needs) (λ c. search needs) (λ c _. search needs) (λ c. search needs)
+    (λ c. search needs) loop-again returns)

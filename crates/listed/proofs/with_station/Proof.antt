@@ -9,12 +9,6 @@ use Rattle.listed.proofs.with_station.Tie as tie
 returns : tie.Need-returns
 returns c = sym (not-counted _ _ _ (c .if1 .taken))
 
-enum-known-least : tie.Need-enum-known-least
-enum-known-least c = search needs
-
-enum-told : tie.Need-enum-told
-enum-told c = search needs
-
 returns-2 : tie.Need-returns-2
 returns-2 c =
     let a = c .before .before .before .before .before .args in
@@ -29,5 +23,4 @@ returns-4 : tie.Need-returns-4
 returns-4 c = rw (c .enum-told .given .1) (sym (counted-first _ _ (search needs)))
 
 pub with-station-spec : {M : Type 1} → statement M
-with-station-spec =
-    tie.close (tie.spec returns enum-known-least enum-told returns-2 returns-3 returns-4)
+with-station-spec = tie.close (tie.spec returns (λ c. search needs) (λ c. search needs) returns-2 returns-3 returns-4)

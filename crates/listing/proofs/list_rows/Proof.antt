@@ -7,15 +7,6 @@ use Rattle.listing.specs.Chunks.{list-accepted, list-refused}
 use Rattle.listing.proofs.list_rows.Statement.{statement}
 use Rattle.listing.proofs.list_rows.Tie as tie
 
-accept-requires : tie.Need-accept-requires
-accept-requires c κs = search needs
-
-enum-known-outcome : tie.Need-enum-known-outcome
-enum-known-outcome c = search needs
-
-enum-told : tie.Need-enum-told
-enum-told c = search needs
-
 put-rows-requires : tie.Need-put-rows-requires
 put-rows-requires c κs =
     let r = c .before .before .before .before .accept in
@@ -27,9 +18,6 @@ returns c =
     let s = c .before .before .before .before .before .before .before .args in
     list-refused (now (s .file)) (s .station) (now (s .out)) _ _ (sym (ap (asGotBy (r .result .alignment)) (c .before .outcome .given .1)) ∙ r .ensures .0)
 
-same-length : tie.Need-same-length
-same-length c = search needs
-
 returns-2 : tie.Need-returns-2
 returns-2 c =
     let r = c .before .before .before .before .before .before .before .accept in
@@ -40,11 +28,4 @@ returns-2 c =
 pub list-rows-spec : {M : Type 1} → statement M
 list-rows-spec =
     tie.close
-    (tie.spec
-    accept-requires
-    enum-known-outcome
-    enum-told
-    put-rows-requires
-    returns
-    same-length
-    returns-2)
+    (tie.spec (λ c _. search needs) (λ c. search needs) (λ c. search needs) put-rows-requires returns (λ c. search needs) returns-2)

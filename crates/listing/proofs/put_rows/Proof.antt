@@ -16,21 +16,9 @@ returns c =
     let g = list-short (roadIn (s .a)) (s .station) (now (s .out)) (c .if1 .taken) in
     (g .answered, g .buffer)
 
-limits-of-requires : tie.Need-limits-of-requires
-limits-of-requires c κs = search needs
-
 rows-from-requires : tie.Need-rows-from-requires
 unfolding limits
 rows-from-requires c κs = (c .before .before .before .before .pre, ap (λ (l : road.Limits). l .lane) (c .before .limits-of .ensures))
-
-enum-known-next : tie.Need-enum-known-next
-enum-known-next c = search needs
-
-enum-told : tie.Need-enum-told
-enum-told c = search needs
-
-same-length : tie.Need-same-length
-same-length c = search needs
 
 -- the chunk's answer, its onward station taken apart
 answer-of : (c : Chunk) (n : Onward) → c .next ≡ n → part (record { bytes = c .bytes; next = n }) ≡ part c
@@ -43,9 +31,6 @@ returns-2 c =
     let g = list-part (roadIn (s .a)) (s .station) (now (s .out)) (c .before .before .before .before .before .before .before .before .if1 .left) in
     (answer-of (r .result) _ (c .before .next .given .1) ∙ ap part (r .ensures .0) ∙ g .answered, r .ensures .1 ∙ g .buffer)
 
-same-length-2 : tie.Need-same-length-2
-same-length-2 c = search needs
-
 returns-3 : tie.Need-returns-3
 returns-3 c =
     let s = c .before .before .before .before .before .before .before .before .before .args in
@@ -56,13 +41,5 @@ returns-3 c =
 pub put-rows-spec : {M : Type 1} → statement M
 put-rows-spec =
     tie.close
-    (tie.spec
-    returns
-    limits-of-requires
-    rows-from-requires
-    enum-known-next
-    enum-told
-    same-length
-    returns-2
-    same-length-2
-    returns-3)
+    (tie.spec returns (λ c _. search needs) rows-from-requires (λ c. search needs) (λ c. search needs) (λ c. search needs) returns-2
+    (λ c. search needs) returns-3)

@@ -3,12 +3,6 @@ use borrow.Author.Needs.{needs}
 use Rattle.places.proofs.arc_bend.Statement.{statement}
 use Rattle.places.proofs.arc_bend.Tie as tie
 
-turn-requires : tie.Need-turn-requires
-turn-requires c κs = search needs
-
-size-requires : tie.Need-size-requires
-size-requires c κs = search needs
-
 returns : tie.Need-returns
 returns c =
     let s = c .before .before in
@@ -16,4 +10,4 @@ returns c =
     rw (turn-local v (s .fits .radius) (c .before .turn .ensures), size-local v (s .fits .radius) (c .size .ensures))
 
 pub arc-bend-spec : {M : Type 1} → statement M
-arc-bend-spec = tie.close (tie.spec turn-requires size-requires returns)
+arc-bend-spec = tie.close (tie.spec (λ c _. search needs) (λ c _. search needs) returns)

@@ -16,18 +16,9 @@ use borrow.Author.Needs.{needs}
 use Rattle.places.proofs.bend_on.Statement.{statement}
 use Rattle.places.proofs.bend_on.Tie as tie
 
-mul-e : tie.Need-mul-e
-mul-e c = search needs
-
 -- the element of the place is the road's
 item : (s : tie.Start) → getD (s .args .a .elements) (s .args .i) blankElement ≡ elementOf (roadIn (s .args .a)) (s .args .i)
 item s = element-item (s .args .a) (s .args .i) (element-within (s .args .a) (s .args .i) (s .pre .1))
-
-array-copy-out-e : tie.Need-array-copy-out-e
-array-copy-out-e c = search needs
-
-arc-bend-requires : tie.Need-arc-bend-requires
-arc-bend-requires c κs = search needs
 
 returns : tie.Need-returns
 returns c =
@@ -55,15 +46,6 @@ sub-h c =
     let q = ap (λ (e : Element). e .kind) (item s) in
     clothoid-inside (s .pre .0 .road) i (s .pre .1) (sym q ∙ c .if2 .left) .0
 
-mul-before : tie.Need-mul-before
-mul-before c = search needs
-
-array-copy-out-before : tie.Need-array-copy-out-before
-array-copy-out-before c = search needs
-
-out-bend-requires : tie.Need-out-bend-requires
-out-bend-requires c κs = search needs
-
 returns-3 : tie.Need-returns-3
 returns-3 c =
     let s = c .before .before .before .before .before .before .before .before .before .before .before in
@@ -77,18 +59,6 @@ returns-3 c =
     let f : SFits w32 _ = record { sfits = c .before .struct-told2 .given .1 .1 .0 .1 } in
     subst (Curved (roadIn a) i) (sym (c .out-bend .ensures ∙ ap₂ outBend (toZ-ofZ f ∙ ap (λ (e : Element). e .radius) w) (ap (λ (e : Element). e .length) q)))
     (after-arc G i (s .pre .1) k (ap (λ (e : Element). e .kind) (sym w) ∙ c .before .before .if3 .taken))
-
-add-j : tie.Need-add-j
-add-j c = search needs
-
-mul-next : tie.Need-mul-next
-mul-next c = search needs
-
-array-copy-out-next : tie.Need-array-copy-out-next
-array-copy-out-next c = search needs
-
-in-bend-requires : tie.Need-in-bend-requires
-in-bend-requires c κs = search needs
 
 returns-4 : tie.Need-returns-4
 returns-4 c =
@@ -109,19 +79,5 @@ returns-4 c =
 pub bend-on-spec : {M : Type 1} → statement M
 bend-on-spec =
     tie.close
-    (tie.spec
-    mul-e
-    array-copy-out-e
-    arc-bend-requires
-    returns
-    returns-2
-    sub-h
-    mul-before
-    array-copy-out-before
-    out-bend-requires
-    returns-3
-    add-j
-    mul-next
-    array-copy-out-next
-    in-bend-requires
-    returns-4)
+    (tie.spec (λ c. search needs) (λ c. search needs) (λ c _. search needs) returns returns-2 sub-h (λ c. search needs) (λ c. search needs)
+    (λ c _. search needs) returns-3 (λ c. search needs) (λ c. search needs) (λ c. search needs) (λ c _. search needs) returns-4)

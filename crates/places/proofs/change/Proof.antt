@@ -5,12 +5,6 @@ use Rattle.places.proofs.Widths.{local, widened, change-fits}
 use Rattle.places.proofs.change.Statement.{statement}
 use Rattle.places.proofs.change.Tie as tie
 
-wide-requires : tie.Need-wide-requires
-wide-requires c κs = search needs
-
-wide-requires-2 : tie.Need-wide-requires-2
-wide-requires-2 c κs = search needs
-
 sub-result : tie.Need-sub-result
 sub-result c =
     let s = c .before .before in
@@ -22,4 +16,4 @@ returns c =
     local (ap₂ _-ℤ_ (widened (c .before .wide .ensures) (s .fits .w)) (widened (c .wide2 .ensures) (s .fits .v))) (change-fits (s .args .v) (s .args .w) (s .fits .v) (s .fits .w))
 
 pub change-spec : {M : Type 1} → statement M
-change-spec = tie.close (tie.spec wide-requires wide-requires-2 sub-result returns)
+change-spec = tie.close (tie.spec (λ c _. search needs) (λ c _. search needs) sub-result returns)

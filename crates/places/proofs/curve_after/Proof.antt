@@ -9,26 +9,11 @@ use borrow.Author.Needs.{needs}
 use Rattle.places.proofs.curve_after.Statement.{statement}
 use Rattle.places.proofs.curve_after.Tie as tie
 
-sub-far : tie.Need-sub-far
-sub-far c = search needs
-
-rise-requires : tie.Need-rise-requires
-rise-requires c κs = search needs
-
-cast-curve-from : tie.Need-cast-curve-from
-cast-curve-from c = search needs
-
-add-curve-from : tie.Need-add-curve-from
-add-curve-from c = search needs
-
 add-curve-from-2 : tie.Need-add-curve-from-2
 add-curve-from-2 c =
     let s = c .before .before .before .before .before .before in
     let t = s .args .t in
     above-fits (s .args .p .height) (t .grade) _ (t .length - t .half) (s .pre .height) (s .pre .grade) (omega (arith, s .pre .length)) (c .before .before .before .rise .ensures)
-
-curve-from-requires : tie.Need-curve-from-requires
-curve-from-requires c κs = search needs
 
 returns : tie.Need-returns
 returns c =
@@ -42,11 +27,4 @@ returns c =
 pub curve-after-spec : {M : Type 1} → statement M
 curve-after-spec =
     tie.close
-    (tie.spec
-    sub-far
-    rise-requires
-    cast-curve-from
-    add-curve-from
-    add-curve-from-2
-    curve-from-requires
-    returns)
+    (tie.spec (λ c. search needs) (λ c _. search needs) (λ c. search needs) (λ c. search needs) add-curve-from-2 (λ c _. search needs) returns)

@@ -8,22 +8,10 @@ use borrow.Author.Needs.{needs}
 use Rattle.places.proofs.curve_before.Statement.{statement}
 use Rattle.places.proofs.curve_before.Tie as tie
 
-rise-requires : tie.Need-rise-requires
-rise-requires c κs = search needs
-
-cast-curve-from : tie.Need-cast-curve-from
-cast-curve-from c = search needs
-
-sub-curve-from : tie.Need-sub-curve-from
-sub-curve-from c = search needs
-
 sub-curve-from-2 : tie.Need-sub-curve-from-2
 sub-curve-from-2 c =
     let s = c .before .before .before .before .before in
     below-fits (s .args .p .height) (s .args .p .«grade_before») _ (s .args .p .«half_before») (s .pre .height) (s .pre .grade-before) (omega (arith, s .pre .half-before)) (c .before .before .before .rise .ensures)
-
-curve-from-requires : tie.Need-curve-from-requires
-curve-from-requires c κs = search needs
 
 returns : tie.Need-returns
 returns c =
@@ -35,12 +23,4 @@ returns c =
     rw (below (p .height) (p .«grade_before») _ (p .«half_before») (s .pre .height) (s .pre .grade-before) (omega (arith, s .pre .half-before)) (c .before .before .before .before .before .rise .ensures), toZ-ofZ f, toZ-ofZ g) at (c .curve-from .ensures)
 
 pub curve-before-spec : {M : Type 1} → statement M
-curve-before-spec =
-    tie.close
-    (tie.spec
-    rise-requires
-    cast-curve-from
-    sub-curve-from
-    sub-curve-from-2
-    curve-from-requires
-    returns)
+curve-before-spec = tie.close (tie.spec (λ c _. search needs) (λ c. search needs) (λ c. search needs) sub-curve-from-2 (λ c _. search needs) returns)

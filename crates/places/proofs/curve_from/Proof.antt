@@ -6,24 +6,6 @@ use borrow.Author.Needs.{needs}
 use Rattle.places.proofs.curve_from.Statement.{statement}
 use Rattle.places.proofs.curve_from.Tie as tie
 
-wide-requires : tie.Need-wide-requires
-wide-requires c κs = search needs
-
-change-requires : tie.Need-change-requires
-change-requires c κs = search needs
-
-cast-t8 : tie.Need-cast-t8
-cast-t8 c = search needs
-
-cast-t9 : tie.Need-cast-t9
-cast-t9 c = search needs
-
-mul-t11 : tie.Need-mul-t11
-mul-t11 c = search needs
-
-add-t12 : tie.Need-add-t12
-add-t12 c = search needs
-
 returns : tie.Need-returns
 returns c =
     let s = c .before .before in
@@ -31,4 +13,5 @@ returns c =
 
 pub curve-from-spec : {M : Type 1} → statement M
 curve-from-spec =
-    tie.close (tie.spec wide-requires change-requires cast-t8 cast-t9 mul-t11 add-t12 returns)
+    tie.close
+    (tie.spec (λ c _. search needs) (λ c _. search needs) (λ c. search needs) (λ c. search needs) (λ c. search needs) (λ c. search needs) returns)

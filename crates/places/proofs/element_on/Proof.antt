@@ -18,32 +18,11 @@ abbrev μ-loop : tie.MeasureT-loop
 long : (c : tie.Start Inv-loop μ-loop) → length (c .args .a .elements) ≡ 200
 long c = search (needs, unmapped)
 
-loop-holds : tie.Need-loop-holds Inv-loop μ-loop
-loop-holds c = search needs
-
-add-if1 : tie.Need-add-if1 Inv-loop μ-loop
-add-if1 c = search needs
-
-mul-e : tie.Need-mul-e Inv-loop μ-loop
-mul-e c = search needs
-
-array-copy-out-e : tie.Need-array-copy-out-e Inv-loop μ-loop
-array-copy-out-e c = search needs
-
-cast-end : tie.Need-cast-end Inv-loop μ-loop
-cast-end c = search needs
-
 add-end : tie.Need-add-end Inv-loop μ-loop
 add-end c =
     let s = c .before .before .before .before .before .before in
     let b = element-below (s .pre .0 .road) (c .before .before .before .before .loop .inv) in
     record { fits = omega (arith, c .struct-known2 .given) }
-
-add-i : tie.Need-add-i Inv-loop μ-loop
-add-i c = search needs
-
-loop-less : tie.Need-loop-less Inv-loop μ-loop
-loop-less c = search needs
 
 loop-again : tie.Need-loop-again Inv-loop μ-loop
 loop-again c =
@@ -71,17 +50,5 @@ returns-2 c =
 pub element-on-spec : {M : Type 1} → statement M
 element-on-spec =
     tie.close
-    (tie.spec
-    Inv-loop
-    μ-loop
-    loop-holds
-    add-if1
-    mul-e
-    array-copy-out-e
-    cast-end
-    add-end
-    add-i
-    loop-less
-    loop-again
-    returns
-    returns-2)
+    (tie.spec Inv-loop μ-loop (λ c. search needs) (λ c. search needs) (λ c. search needs) (λ c. search needs) (λ c. search needs) add-end
+    (λ c. search needs) (λ c. search needs) loop-again returns returns-2)

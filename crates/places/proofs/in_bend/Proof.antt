@@ -3,15 +3,6 @@ use borrow.Author.Needs.{needs}
 use Rattle.places.proofs.in_bend.Statement.{statement}
 use Rattle.places.proofs.in_bend.Tie as tie
 
-turn-requires : tie.Need-turn-requires
-turn-requires c κs = search needs
-
-size-requires : tie.Need-size-requires
-size-requires c κs = search needs
-
-cast-t5 : tie.Need-cast-t5
-cast-t5 c = search needs
-
 mul-t6 : tie.Need-mul-t6
 mul-t6 c =
     let s = c .before .before in
@@ -25,4 +16,4 @@ returns c =
     rw (turn-local v (s .fits .radius) (c .before .turn .ensures), times (size-local v (s .fits .radius) (c .size .ensures)) (small v (s .fits .radius)) (s .fits .length .fits))
 
 pub in-bend-spec : {M : Type 1} → statement M
-in-bend-spec = tie.close (tie.spec turn-requires size-requires cast-t5 mul-t6 returns)
+in-bend-spec = tie.close (tie.spec (λ c _. search needs) (λ c _. search needs) (λ c. search needs) mul-t6 returns)

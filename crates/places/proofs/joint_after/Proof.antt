@@ -11,21 +11,6 @@ use borrow.Author.Needs.{needs}
 use Rattle.places.proofs.joint_after.Statement.{statement}
 use Rattle.places.proofs.joint_after.Tie as tie
 
-mul-e : tie.Need-mul-e
-mul-e c = search needs
-
-array-copy-out-e : tie.Need-array-copy-out-e
-array-copy-out-e c = search needs
-
-cast-stop : tie.Need-cast-stop
-cast-stop c = search needs
-
-add-stop : tie.Need-add-stop
-add-stop c = search needs
-
-add-result : tie.Need-add-result
-add-result c = search needs
-
 returns : tie.Need-returns
 returns c =
     let s = c .before .before .before .before .before in
@@ -34,24 +19,6 @@ returns c =
     let f = s .pre .1 .0 in
     let e = found-end _ f (element-item a (p .index) (element-within a _ (f .at .below))) in
     joint-last _ (s .args .end) _ (s .args .x) (omega arith)
-
-add-j : tie.Need-add-j
-add-j c = search needs
-
-mul-c : tie.Need-mul-c
-mul-c c = search needs
-
-array-copy-out-c : tie.Need-array-copy-out-c
-array-copy-out-c c = search needs
-
-cast-least : tie.Need-cast-least
-cast-least c = search needs
-
-least-requires : tie.Need-least-requires
-least-requires c κs = search needs
-
-least-requires-2 : tie.Need-least-requires-2
-least-requires-2 c κs = search needs
 
 returns-2 : tie.Need-returns-2
 returns-2 c =
@@ -68,17 +35,5 @@ returns-2 c =
 pub joint-after-spec : {M : Type 1} → statement M
 joint-after-spec =
     tie.close
-    (tie.spec
-    mul-e
-    array-copy-out-e
-    cast-stop
-    add-stop
-    add-result
-    returns
-    add-j
-    mul-c
-    array-copy-out-c
-    cast-least
-    least-requires
-    least-requires-2
-    returns-2)
+    (tie.spec (λ c. search needs) (λ c. search needs) (λ c. search needs) (λ c. search needs) (λ c. search needs) returns (λ c. search needs)
+    (λ c. search needs) (λ c. search needs) (λ c. search needs) (λ c _. search needs) (λ c _. search needs) returns-2)

@@ -8,15 +8,6 @@ use borrow.Author.Needs.{needs}
 use Rattle.places.proofs.out_bend.Statement.{statement}
 use Rattle.places.proofs.out_bend.Tie as tie
 
-turn-requires : tie.Need-turn-requires
-turn-requires c κs = search needs
-
-size-requires : tie.Need-size-requires
-size-requires c κs = search needs
-
-cast-t5 : tie.Need-cast-t5
-cast-t5 c = search needs
-
 mul-t6 : tie.Need-mul-t6
 mul-t6 c =
     let s = c .before .before in
@@ -28,9 +19,6 @@ sub-t7 c =
     let s = c .before .before in
     let v = s .args .radius in
     rw (turn-local v (s .fits .radius) (c .before .turn .ensures)) (fits64 (pos 0 -ℤ turned v) (omega (arith, opposite-size v)))
-
-cast-t8 : tie.Need-cast-t8
-cast-t8 c = search needs
 
 mul-t9 : tie.Need-mul-t9
 mul-t9 c =
@@ -46,5 +34,4 @@ returns c =
     rw (times t (omega (arith, turned-size v)) (s .fits .length .fits), local (ap (λ (z : ℤ). pos 0 -ℤ z) t) (fits64 (pos 0 -ℤ turned v) (omega (arith, opposite-size v))), times (size-local v (s .fits .radius) (c .size .ensures)) (small v (s .fits .radius)) (s .fits .length .fits))
 
 pub out-bend-spec : {M : Type 1} → statement M
-out-bend-spec =
-    tie.close (tie.spec turn-requires size-requires cast-t5 mul-t6 sub-t7 cast-t8 mul-t9 returns)
+out-bend-spec = tie.close (tie.spec (λ c _. search needs) (λ c _. search needs) (λ c. search needs) mul-t6 sub-t7 (λ c. search needs) mul-t9 returns)

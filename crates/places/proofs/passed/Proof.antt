@@ -7,18 +7,6 @@ use Rattle.places.proofs.Widths.{above, above-fits}
 use Rattle.places.proofs.passed.Statement.{statement}
 use Rattle.places.proofs.passed.Tie as tie
 
-rise-requires : tie.Need-rise-requires
-rise-requires c κs = search needs
-
-add-t4 : tie.Need-add-t4
-add-t4 c = search needs
-
-cast-t5 : tie.Need-cast-t5
-cast-t5 c = search needs
-
-add-t6 : tie.Need-add-t6
-add-t6 c = search needs
-
 add-t7 : tie.Need-add-t7
 add-t7 c =
     let s = c .before .before .before .before .before .before .before in
@@ -30,4 +18,4 @@ returns c =
     rw (above (s .args .p .height) (s .args .t .grade) _ (s .args .t .length) (s .pre .height) (s .pre .grade) (s .pre .length) (c .before .before .before .before .before .before .rise .ensures), toZ-ofZ (fits w32 (s .args .t .grade) (omega (arith, s .pre .grade))))
 
 pub passed-spec : {M : Type 1} → statement M
-passed-spec = tie.close (tie.spec rise-requires add-t4 cast-t5 add-t6 add-t7 returns)
+passed-spec = tie.close (tie.spec (λ c _. search needs) (λ c. search needs) (λ c. search needs) (λ c. search needs) add-t7 returns)

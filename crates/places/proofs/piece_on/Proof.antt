@@ -14,21 +14,12 @@ use borrow.Author.Needs.{needs}
 use Rattle.places.proofs.piece_on.Statement.{statement}
 use Rattle.places.proofs.piece_on.Tie as tie
 
-mul-t : tie.Need-mul-t
-mul-t c = search needs
-
 -- the tangent of the place is the road's, and its numbers are small
 item : (s : tie.Start) → getD (s .args .a .tangents) (s .args .p .index) blankTangent ≡ tangentOf (roadIn (s .args .a)) (s .args .p .index)
 item s = tangent-item (s .args .a) (s .args .p .index) (tangent-within (s .args .a) (s .args .p .index) (s .pre .1 .at .below))
 
 small : (s : tie.Start) → Sized (s .args .p) (getD (s .args .a .tangents) (s .args .p .index) blankTangent)
 small s = sized (s .pre .0 .road) _ (s .pre .1 .placed) (item s) (s .pre .1 .at .below)
-
-array-copy-out-t : tie.Need-array-copy-out-t
-array-copy-out-t c = search needs
-
-cast-if1 : tie.Need-cast-if1
-cast-if1 c = search needs
 
 add-if1 : tie.Need-add-if1
 add-if1 c = let z = small (c .before .before .before) in record { fits = omega arith }
@@ -46,9 +37,6 @@ returns c =
 sub-far : tie.Need-sub-far
 sub-far c = small (c .before .before .before .before .before) .half
 
-cast-if2 : tie.Need-cast-if2
-cast-if2 c = search needs
-
 add-if2 : tie.Need-add-if2
 add-if2 c = let z = small (c .before .before .before .before .before) in record { fits = omega arith }
 
@@ -61,12 +49,6 @@ returns-2 c =
     let f = s .pre .1 in
     subst (λ (p : Piece). PieceAt (roadIn (s .args .a)) p (s .args .x)) (sym (c .straight-part .ensures))
     (straight-piece (s .pre .0 .road) _ f (item s) (c .before .before .before .before .if1 .left) (on-part _ _ _ (c .before .if2 .taken)))
-
-add-j : tie.Need-add-j
-add-j c = search needs
-
-mul-next : tie.Need-mul-next
-mul-next c = search needs
 
 array-copy-out-next : tie.Need-array-copy-out-next
 array-copy-out-next c =
@@ -96,20 +78,5 @@ returns-3 c =
 pub piece-on-spec : {M : Type 1} → statement M
 piece-on-spec =
     tie.close
-    (tie.spec
-    mul-t
-    array-copy-out-t
-    cast-if1
-    add-if1
-    curve-before-requires
-    returns
-    sub-far
-    cast-if2
-    add-if2
-    straight-part-requires
-    returns-2
-    add-j
-    mul-next
-    array-copy-out-next
-    curve-after-requires
-    returns-3)
+    (tie.spec (λ c. search needs) (λ c. search needs) (λ c. search needs) add-if1 curve-before-requires returns sub-far (λ c. search needs) add-if2
+    straight-part-requires returns-2 (λ c. search needs) (λ c. search needs) array-copy-out-next curve-after-requires returns-3)

@@ -20,29 +20,11 @@ abbrev μ-loop : tie.MeasureT-loop
 long : (c : tie.Start Inv-loop μ-loop) → length (c .args .a .crossfalls) ≡ 200
 long c = search (needs, unmapped)
 
-loop-holds : tie.Need-loop-holds Inv-loop μ-loop
-loop-holds c = search needs
-
 add-if1 : tie.Need-add-if1 Inv-loop μ-loop
 add-if1 c =
     let s = c .before .before in
     let m = point-count (s .args .a) (s .pre .0) (long s) in
     search needs
-
-add-j : tie.Need-add-j Inv-loop μ-loop
-add-j c = search needs
-
-mul-p : tie.Need-mul-p Inv-loop μ-loop
-mul-p c = search needs
-
-array-copy-out-p : tie.Need-array-copy-out-p Inv-loop μ-loop
-array-copy-out-p c = search needs
-
-cast-if2 : tie.Need-cast-if2 Inv-loop μ-loop
-cast-if2 c = search needs
-
-loop-less : tie.Need-loop-less Inv-loop μ-loop
-loop-less c = search needs
 
 loop-again : tie.Need-loop-again Inv-loop μ-loop
 loop-again c =
@@ -72,16 +54,5 @@ returns-2 c =
 pub point-on-spec : {M : Type 1} → statement M
 point-on-spec =
     tie.close
-    (tie.spec
-    Inv-loop
-    μ-loop
-    loop-holds
-    add-if1
-    add-j
-    mul-p
-    array-copy-out-p
-    cast-if2
-    loop-less
-    loop-again
-    returns
-    returns-2)
+    (tie.spec Inv-loop μ-loop (λ c. search needs) add-if1 (λ c. search needs) (λ c. search needs) (λ c. search needs) (λ c. search needs)
+    (λ c. search needs) loop-again returns returns-2)

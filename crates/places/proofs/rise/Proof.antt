@@ -5,12 +5,6 @@ use Rattle.places.proofs.Widths.{local, widened, unsigned, small, produ
 use Rattle.places.proofs.rise.Statement.{statement}
 use Rattle.places.proofs.rise.Tie as tie
 
-wide-requires : tie.Need-wide-requires
-wide-requires c κs = search needs
-
-cast-result : tie.Need-cast-result
-cast-result c = search needs
-
 mul-result : tie.Need-mul-result
 mul-result c =
     let s = c .before in
@@ -22,4 +16,4 @@ returns c =
     local (ap₂ _*ℤ_ (widened (c .wide .ensures) (s .fits .grade)) (unsigned (s .fits .length .fits))) (product-fits (s .args .grade) (s .args .length) (small _ (s .fits .grade)) (s .fits .length .fits))
 
 pub rise-spec : {M : Type 1} → statement M
-rise-spec = tie.close (tie.spec wide-requires cast-result mul-result returns)
+rise-spec = tie.close (tie.spec (λ c _. search needs) (λ c. search needs) mul-result returns)

@@ -8,27 +8,6 @@ use borrow.Author.Needs.{needs}
 use Rattle.places.proofs.sides_of.Statement.{statement}
 use Rattle.places.proofs.sides_of.Tie as tie
 
-wide-requires : tie.Need-wide-requires
-wide-requires c κs = search needs
-
-change-requires : tie.Need-change-requires
-change-requires c κs = search needs
-
-wide-requires-2 : tie.Need-wide-requires-2
-wide-requires-2 c κs = search needs
-
-change-requires-2 : tie.Need-change-requires-2
-change-requires-2 c κs = search needs
-
-cast-t7 : tie.Need-cast-t7
-cast-t7 c = search needs
-
-cast-t8 : tie.Need-cast-t8
-cast-t8 c = search needs
-
-cast-t9 : tie.Need-cast-t9
-cast-t9 c = search needs
-
 sub-t10 : tie.Need-sub-t10
 sub-t10 c =
     let m = c .before .before .before in
@@ -58,13 +37,5 @@ returns c =
 pub sides-of-spec : {M : Type 1} → statement M
 sides-of-spec =
     tie.close
-    (tie.spec
-    wide-requires
-    change-requires
-    wide-requires-2
-    change-requires-2
-    cast-t7
-    cast-t8
-    cast-t9
-    sub-t10
-    returns)
+    (tie.spec (λ c _. search needs) (λ c _. search needs) (λ c _. search needs) (λ c _. search needs) (λ c. search needs) (λ c. search needs)
+    (λ c. search needs) sub-t10 returns)

@@ -10,24 +10,6 @@ use borrow.Author.Needs.{needs}
 use Rattle.places.proofs.sides_on.Statement.{statement}
 use Rattle.places.proofs.sides_on.Tie as tie
 
-mul-c : tie.Need-mul-c
-mul-c c = search needs
-
-array-copy-out-c : tie.Need-array-copy-out-c
-array-copy-out-c c = search needs
-
-add-j : tie.Need-add-j
-add-j c = search needs
-
-mul-d : tie.Need-mul-d
-mul-d c = search needs
-
-array-copy-out-d : tie.Need-array-copy-out-d
-array-copy-out-d c = search needs
-
-sides-of-requires : tie.Need-sides-of-requires
-sides-of-requires c κs = search needs
-
 returns : tie.Need-returns
 returns c =
     let s = c .before .before .before .before in
@@ -39,4 +21,4 @@ returns c =
 pub sides-on-spec : {M : Type 1} → statement M
 sides-on-spec =
     tie.close
-    (tie.spec mul-c array-copy-out-c add-j mul-d array-copy-out-d sides-of-requires returns)
+    (tie.spec (λ c. search needs) (λ c. search needs) (λ c. search needs) (λ c. search needs) (λ c. search needs) (λ c _. search needs) returns)

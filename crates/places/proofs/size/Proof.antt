@@ -7,9 +7,6 @@ use Rattle.places.proofs.Widths.{local, widened, small, size-left, size
 use Rattle.places.proofs.size.Statement.{statement}
 use Rattle.places.proofs.size.Tie as tie
 
-wide-requires : tie.Need-wide-requires
-wide-requires c κs = search needs
-
 sub-result : tie.Need-sub-result
 sub-result c =
     let s = c .before .before in
@@ -32,4 +29,4 @@ returns-2 c =
     e ∙ size-right v (rw e at (c .if1 .left))
 
 pub size-spec : {M : Type 1} → statement M
-size-spec = tie.close (tie.spec wide-requires sub-result returns returns-2)
+size-spec = tie.close (tie.spec (λ c _. search needs) sub-result returns returns-2)

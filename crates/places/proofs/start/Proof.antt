@@ -11,9 +11,6 @@ use borrow.Author.Needs.{needs}
 use Rattle.places.proofs.start.Statement.{statement}
 use Rattle.places.proofs.start.Tie as tie
 
-rise-requires : tie.Need-rise-requires
-rise-requires c κs = search needs
-
 returns : tie.Need-returns
 returns c =
     let s = c .before .before in
@@ -23,4 +20,4 @@ returns c =
     (fits64 (v *ℤ pos 1000000) (omega (arith, abs-product v (pos 1000000) {l = 1000000} (G .start-size) (omega arith)))))
 
 pub start-spec : {M : Type 1} → statement M
-start-spec = tie.close (tie.spec rise-requires returns)
+start-spec = tie.close (tie.spec (λ c _. search needs) returns)

@@ -8,12 +8,6 @@ use mir.Facts.{toZ-ofZ, toZ-pos}
 use Rattle.places.proofs.stretch_of.Statement.{statement}
 use Rattle.places.proofs.stretch_of.Tie as tie
 
-cast-t6 : tie.Need-cast-t6
-cast-t6 c = search needs
-
-cast-t7 : tie.Need-cast-t7
-cast-t7 c = search needs
-
 returns : tie.Need-returns
 returns c =
     let start = c .before .before .before in
@@ -42,4 +36,4 @@ returns c =
     simp (toZ-ofZ, l, e)
 
 pub stretch-of-spec : {M : Type 1} → statement M
-stretch-of-spec = tie.close (tie.spec cast-t6 cast-t7 returns)
+stretch-of-spec = tie.close (tie.spec (λ c. search needs) (λ c. search needs) returns)

@@ -19,21 +19,6 @@ abbrev μ-loop : tie.MeasureT-loop
 long : (c : tie.Start Inv-loop μ-loop) → length (c .args .a .tangents) ≡ 100
 long c = search (needs, unmapped)
 
-loop-holds : tie.Need-loop-holds Inv-loop μ-loop
-loop-holds c = search needs
-
-add-if1 : tie.Need-add-if1 Inv-loop μ-loop
-add-if1 c = search needs
-
-mul-t : tie.Need-mul-t Inv-loop μ-loop
-mul-t c = search needs
-
-array-copy-out-t : tie.Need-array-copy-out-t Inv-loop μ-loop
-array-copy-out-t c = search needs
-
-cast-if2 : tie.Need-cast-if2 Inv-loop μ-loop
-cast-if2 c = search needs
-
 add-if2 : tie.Need-add-if2 Inv-loop μ-loop
 add-if2 c =
     let s = c .before .before .before .before .before .before .before .before in
@@ -75,17 +60,5 @@ returns-2 c =
 pub tangent-on-spec : {M : Type 1} → statement M
 tangent-on-spec =
     tie.close
-    (tie.spec
-    Inv-loop
-    μ-loop
-    loop-holds
-    add-if1
-    mul-t
-    array-copy-out-t
-    cast-if2
-    add-if2
-    passed-requires
-    loop-less
-    loop-again
-    returns
-    returns-2)
+    (tie.spec Inv-loop μ-loop (λ c. search needs) (λ c. search needs) (λ c. search needs) (λ c. search needs) (λ c. search needs) add-if2
+    passed-requires loop-less loop-again returns returns-2)

@@ -4,9 +4,6 @@ use Rattle.places.proofs.Widths.{turn-left, turn-right}
 use Rattle.places.proofs.turn.Statement.{statement}
 use Rattle.places.proofs.turn.Tie as tie
 
-sub-result : tie.Need-sub-result
-sub-result c = search needs
-
 returns : tie.Need-returns
 returns c = turn-left (c .before .args .radius) (rw (toZ-ofZ (c .before .fits .radius)) at (c .if1 .taken))
 
@@ -14,4 +11,4 @@ returns-2 : tie.Need-returns-2
 returns-2 c = turn-right (c .before .args .radius) (rw (toZ-ofZ (c .before .fits .radius)) at (c .if1 .left))
 
 pub turn-spec : {M : Type 1} → statement M
-turn-spec = tie.close (tie.spec sub-result returns returns-2)
+turn-spec = tie.close (tie.spec (λ c. search needs) returns returns-2)

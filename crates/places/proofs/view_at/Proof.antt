@@ -5,18 +5,6 @@ use borrow.Author.Needs.{needs}
 use Rattle.places.proofs.view_at.Statement.{statement}
 use Rattle.places.proofs.view_at.Tie as tie
 
-moved-requires : tie.Need-moved-requires
-moved-requires c κs = search needs
-
-piece-on-requires : tie.Need-piece-on-requires
-piece-on-requires c κs = search needs
-
-sides-on-requires : tie.Need-sides-on-requires
-sides-on-requires c κs = search needs
-
-bend-on-requires : tie.Need-bend-on-requires
-bend-on-requires c κs = search needs
-
 joint-after-requires : tie.Need-joint-after-requires
 joint-after-requires c κs =
     let s = c .before .before .before .before .before .before in
@@ -41,11 +29,4 @@ returns c =
 pub view-at-spec : {M : Type 1} → statement M
 view-at-spec =
     tie.close
-    (tie.spec
-    moved-requires
-    piece-on-requires
-    sides-on-requires
-    bend-on-requires
-    joint-after-requires
-    stretch-of-requires
-    returns)
+    (tie.spec (λ c _. search needs) (λ c _. search needs) (λ c _. search needs) (λ c _. search needs) joint-after-requires stretch-of-requires returns)

@@ -18,21 +18,6 @@ Inv-loop file out₀ alignment from₀ out from = (length out ≡ length out₀)
 abbrev μ-loop : tie.MeasureT-loop
 μ-loop file out₀ alignment from₀ out from = 100000001 - from
 
-accept-requires : tie.Need-accept-requires Inv-loop μ-loop
-accept-requires c κs = search needs
-
-enum-known-outcome : tie.Need-enum-known-outcome Inv-loop μ-loop
-enum-known-outcome c = search needs
-
-print-refusal-requires : tie.Need-print-refusal-requires Inv-loop μ-loop
-print-refusal-requires c κs = search needs
-
-returns : tie.Need-returns Inv-loop μ-loop
-returns c = search needs
-
-enum-told : tie.Need-enum-told Inv-loop μ-loop
-enum-told c = search needs
-
 loop-holds : tie.Need-loop-holds Inv-loop μ-loop
 loop-holds c =
     let r = c .before .before .before .accept in
@@ -41,21 +26,6 @@ loop-holds c =
 
 put-rows-requires : tie.Need-put-rows-requires Inv-loop μ-loop
 put-rows-requires c κs = c .before .loop .inv .1 .1 .ready
-
-enum-known-number : tie.Need-enum-known-number Inv-loop μ-loop
-enum-known-number c = search needs
-
-print-refusal-requires-2 : tie.Need-print-refusal-requires-2 Inv-loop μ-loop
-print-refusal-requires-2 c κs = search needs
-
-same-length : tie.Need-same-length Inv-loop μ-loop
-same-length c = search needs
-
-returns-2 : tie.Need-returns-2 Inv-loop μ-loop
-returns-2 c = search needs
-
-enum-known-bytes : tie.Need-enum-known-bytes Inv-loop μ-loop
-enum-known-bytes c = search needs
 
 -- the last part: its bytes are in the buffer
 last-part : (c : tie.After-known-told3 Inv-loop μ-loop) → c .before .bytes .given .0 .0 ≤ length (c .before .before .before .before .before .put-rows .last .1 .1 .0)
@@ -70,18 +40,6 @@ slice-reshare-prefix-write-all c = last-part c
 
 slice-aggregate-write-all : tie.Need-slice-aggregate-write-all Inv-loop μ-loop
 slice-aggregate-write-all c = sym (length-take-le _ _ (last-part (c .before)))
-
-write-all-requires : tie.Need-write-all-requires Inv-loop μ-loop
-write-all-requires c κs = search needs
-
-same-length-2 : tie.Need-same-length-2 Inv-loop μ-loop
-same-length-2 c = search needs
-
-returns-3 : tie.Need-returns-3 Inv-loop μ-loop
-returns-3 c = search needs
-
-enum-known-bytes-2 : tie.Need-enum-known-bytes-2 Inv-loop μ-loop
-enum-known-bytes-2 c = search needs
 
 -- a part and more: its bytes are in the buffer, and the list goes on from a later station
 part-of : (c : tie.After-known-told4 Inv-loop μ-loop) → Going (now (c .before .before .before .before .before .before .before .before .before .before .before .before .before .before .args .file)) (c .before .before .before .before .before .before .before .loop .from) (c .before .before .before .before .before .before .before .loop .out) (c .before .bytes2 .given .0 .0) (c .before .bytes2 .given .0 .1 .0)
@@ -98,15 +56,6 @@ slice-reshare-prefix-write-all-2 c = within c
 slice-aggregate-write-all-2 : tie.Need-slice-aggregate-write-all-2 Inv-loop μ-loop
 slice-aggregate-write-all-2 c = sym (length-take-le _ _ (within (c .before)))
 
-write-all-requires-2 : tie.Need-write-all-requires-2 Inv-loop μ-loop
-write-all-requires-2 c κs = search needs
-
-same-length-3 : tie.Need-same-length-3 Inv-loop μ-loop
-same-length-3 c = search needs
-
-returns-4 : tie.Need-returns-4 Inv-loop μ-loop
-returns-4 c = search needs
-
 loop-less : tie.Need-loop-less Inv-loop μ-loop
 loop-less c = let g = part-of (c .before .before .before) in omega (arith, g .beyond, g .inside)
 
@@ -118,31 +67,7 @@ loop-again c =
 pub print-list-spec : {M : Type 1} → statement M
 print-list-spec =
     tie.close
-    (tie.spec
-    Inv-loop
-    μ-loop
-    accept-requires
-    enum-known-outcome
-    print-refusal-requires
-    returns
-    enum-told
-    loop-holds
-    put-rows-requires
-    enum-known-number
-    print-refusal-requires-2
-    same-length
-    returns-2
-    enum-known-bytes
-    slice-reshare-prefix-write-all
-    slice-aggregate-write-all
-    write-all-requires
-    same-length-2
-    returns-3
-    enum-known-bytes-2
-    slice-reshare-prefix-write-all-2
-    slice-aggregate-write-all-2
-    write-all-requires-2
-    same-length-3
-    returns-4
-    loop-less
-    loop-again)
+    (tie.spec Inv-loop μ-loop (λ c _. search needs) (λ c. search needs) (λ c _. search needs) (λ c. search needs) (λ c. search needs) loop-holds
+    put-rows-requires (λ c. search needs) (λ c _. search needs) (λ c. search needs) (λ c. search needs) (λ c. search needs)
+    slice-reshare-prefix-write-all slice-aggregate-write-all (λ c _. search needs) (λ c. search needs) (λ c. search needs) (λ c. search needs)
+    slice-reshare-prefix-write-all-2 slice-aggregate-write-all-2 (λ c _. search needs) (λ c. search needs) (λ c. search needs) loop-less loop-again)

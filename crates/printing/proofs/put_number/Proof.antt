@@ -22,9 +22,6 @@ slice-write-line c = let s = c .before .before .before .before .before in let d 
 add-result : tie.Need-add-result
 add-result c = let s = c .before .before .before .before .before in let d = c .before .before .put-digits in let e = d .ensures .end in let h = short s in let p = s .pre .1 in let g = s .good in search needs
 
-same-length : tie.Need-same-length
-same-length c = search needs
-
 returns : tie.Need-returns
 returns c =
     let s = c .before .before .before .before .before in
@@ -32,5 +29,4 @@ returns c =
     (wrote-byte (s .args .after) (d .ensures) (omega (arith, short s, s .pre .1)), omega (arith, short s, d .ensures .end))
 
 pub put-number-spec : {M : Type 1} → statement M
-put-number-spec =
-    tie.close (tie.spec put-digits-requires slice-write-line add-result same-length returns)
+put-number-spec = tie.close (tie.spec put-digits-requires slice-write-line add-result (λ c. search needs) returns)

@@ -43,12 +43,6 @@ element-count c = count-take (c .args .t1 .elements) (c .args .t1 .«element_cou
 point-count : (c : tie.Start Inv-loop μ-loop) → length (roadIn (c .args .t1) .crossfalls) ≡ c .args .t1 .«crossfall_count»
 point-count c = count-take (c .args .t1 .crossfalls) (c .args .t1 .«crossfall_count») (points c) (c .pre .0 .points)
 
-element-copy-out-p : tie.Need-element-copy-out-p Inv-loop μ-loop
-element-copy-out-p c = search needs
-
-element-copy-out-q : tie.Need-element-copy-out-q Inv-loop μ-loop
-element-copy-out-q c = search needs
-
 loop-holds : tie.Need-loop-holds Inv-loop μ-loop
 unfolding elementStart sumOf
 loop-holds c =
@@ -58,21 +52,6 @@ loop-holds c =
     let q = ⊎-elim (λ w. w .2 ∙ item-in (a .crossfalls) (a .«crossfall_count») 1 blankCrossfall (w .0 .taken)) (λ w. w .1 ∙ item-past (a .crossfalls) (a .«crossfall_count») 1 blankCrossfall (w .0 .left)) (c .if2 .came) in
     let few = s .pre .0 .plan in
     (s .pre .0 .points, omega arith, p, q, sums-start (omega arith) refl, merged-start (asLimits (s .args .l)) (roadIn a) (s .pre .1), start)
-
-mul-e : tie.Need-mul-e Inv-loop μ-loop
-mul-e c = search needs
-
-element-copy-out-e : tie.Need-element-copy-out-e Inv-loop μ-loop
-element-copy-out-e c = search needs
-
-cast-high : tie.Need-cast-high Inv-loop μ-loop
-cast-high c = search needs
-
-add-high : tie.Need-add-high Inv-loop μ-loop
-add-high c = search needs
-
-arc-fails-requires : tie.Need-arc-fails-requires Inv-loop μ-loop
-arc-fails-requires c κs = search needs
 
 high : (c : tie.After-arc-fails Inv-loop μ-loop) → Sums (elementStart (roadIn (c .before .before .before .before .before .before .before .args .t1))) (c .before .before .before .before .before .before .before .args .t1 .«element_count») (c .before .before .before .before .loop .i + 1) (c .before .before .before .before .loop .low + lengthOf (c .before .before .before .before .before .before .before) (c .before .before .before .before .loop .i))
 high c =
@@ -101,12 +80,6 @@ returns c =
     let v = c .before .before .before .before .before .loop in
     let s = c .before .before .before .before .before .before .before .before in
     found (v .inv .6) (within d) (fails (asLimits (s .args .l)) (roadIn (s .args .t1)) (s .pre .1) (v .inv .5) (sym (test d) ∙ c .if3 .taken))
-
-add-if4 : tie.Need-add-if4 Inv-loop μ-loop
-add-if4 c = search needs
-
-cast-if4 : tie.Need-cast-if4 Inv-loop μ-loop
-cast-if4 c = search needs
 
 -- there are more pairs, and the next one begins before the element ends
 more : (c : tie.Then4 Inv-loop μ-loop) → (c .before .before .before .before .before .before .before .loop .j + 2 < c .before .before .before .before .before .before .before .before .before .before .args .t1 .«crossfall_count») × (c .before .before .before .before .before .before .before .loop .q .station ≤ c .before .before .before .before .before .before .before .loop .low + lengthOf (c .before .before .before .before .before .before .before .before .before .before) (c .before .before .before .before .before .before .before .loop .i))
@@ -155,12 +128,6 @@ beyond c h =
     let g : v .low + lengthOf (c .before .before .before .before .before .before .before .before .before .before) (v .i) < v .q .station = leb-false _ _ l in
     omega arith
 
-add-i : tie.Need-add-i Inv-loop μ-loop
-add-i c = search needs
-
-loop-less-2 : tie.Need-loop-less-2 Inv-loop μ-loop
-loop-less-2 c = search needs
-
 loop-again-2 : tie.Need-loop-again-2 Inv-loop μ-loop
 loop-again-2 c =
     let d = c .before .before .before in
@@ -177,27 +144,6 @@ returns-2 c = let m = element-count (c .before .before .before .before) in let h
 pub first-arc-spec : {M : Type 1} → statement M
 first-arc-spec =
     tie.close
-    (tie.spec
-    Inv-loop
-    μ-loop
-    element-copy-out-p
-    element-copy-out-q
-    loop-holds
-    mul-e
-    element-copy-out-e
-    cast-high
-    add-high
-    arc-fails-requires
-    returns
-    add-if4
-    cast-if4
-    add-j
-    add-q
-    mul-q
-    element-copy-out-q-2
-    loop-less
-    loop-again
-    add-i
-    loop-less-2
-    loop-again-2
-    returns-2)
+    (tie.spec Inv-loop μ-loop (λ c. search needs) (λ c. search needs) loop-holds (λ c. search needs) (λ c. search needs) (λ c. search needs)
+    (λ c. search needs) (λ c _. search needs) returns (λ c. search needs) (λ c. search needs) add-j add-q mul-q element-copy-out-q-2 loop-less
+    loop-again (λ c. search needs) (λ c. search needs) loop-again-2 returns-2)

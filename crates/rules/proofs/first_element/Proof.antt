@@ -28,9 +28,6 @@ abbrev μ-loop : tie.MeasureT-loop
 long : (c : tie.Start Inv-loop μ-loop) → length (c .args .t1 .elements) ≡ 200
 long c = search (needs, unmapped)
 
-element-copy-out-e : tie.Need-element-copy-out-e Inv-loop μ-loop
-element-copy-out-e c = search needs
-
 loop-holds : tie.Need-loop-holds Inv-loop μ-loop
 unfolding elementStart sumOf
 loop-holds c =
@@ -38,27 +35,6 @@ loop-holds c =
     let a = s .args .t1 in
     let first : c .if1 .e ≡ elementOf (roadIn a) 0 = ⊎-elim (λ w. w .2 ∙ item-in (a .elements) (a .«element_count») 0 blankElement (w .0 .taken)) (λ w. w .1 ∙ item-past (a .elements) (a .«element_count») 0 blankElement (w .0 .left)) (c .if1 .came) in
     (s .pre .1, first, first, sums-start (omega arith) refl, start)
-
-add-if2 : tie.Need-add-if2 Inv-loop μ-loop
-add-if2 c = search needs
-
-add-next : tie.Need-add-next Inv-loop μ-loop
-add-next c = search needs
-
-mul-next : tie.Need-mul-next Inv-loop μ-loop
-mul-next c = search needs
-
-element-copy-out-next : tie.Need-element-copy-out-next Inv-loop μ-loop
-element-copy-out-next c = search needs
-
-cast-end : tie.Need-cast-end Inv-loop μ-loop
-cast-end c = search needs
-
-add-end : tie.Need-add-end Inv-loop μ-loop
-add-end c = search needs
-
-element-fails-requires : tie.Need-element-fails-requires Inv-loop μ-loop
-element-fails-requires c κs = search needs
 
 -- what stands after the element, where it ends, and what its test says
 next-is : (c : tie.After-element-fails Inv-loop μ-loop) → c .before .before .if2 .next ≡ elementOf (roadIn (c .before .before .before .before .before .before .args .t1)) (suc (c .before .before .before .before .loop .i))
@@ -85,12 +61,6 @@ test c =
 returns : tie.Need-returns Inv-loop μ-loop
 returns c = found (c .before .before .before .before .before .loop .inv .4) (c .before .before .before .before .loop-test .taken) (sym (test (c .before)) ∙ c .if3 .taken)
 
-add-i : tie.Need-add-i Inv-loop μ-loop
-add-i c = search needs
-
-loop-less : tie.Need-loop-less Inv-loop μ-loop
-loop-less c = search needs
-
 loop-again : tie.Need-loop-again Inv-loop μ-loop
 loop-again c =
     let v = c .before .before .before .before .before .loop in
@@ -105,20 +75,5 @@ returns-2 c = nothing (c .before .loop .inv .4) (c .loop-test .left)
 pub first-element-spec : {M : Type 1} → statement M
 first-element-spec =
     tie.close
-    (tie.spec
-    Inv-loop
-    μ-loop
-    element-copy-out-e
-    loop-holds
-    add-if2
-    add-next
-    mul-next
-    element-copy-out-next
-    cast-end
-    add-end
-    element-fails-requires
-    returns
-    add-i
-    loop-less
-    loop-again
-    returns-2)
+    (tie.spec Inv-loop μ-loop (λ c. search needs) loop-holds (λ c. search needs) (λ c. search needs) (λ c. search needs) (λ c. search needs)
+    (λ c. search needs) (λ c. search needs) (λ c _. search needs) returns (λ c. search needs) (λ c. search needs) loop-again returns-2)

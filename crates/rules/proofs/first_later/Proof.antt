@@ -17,30 +17,6 @@ tangents c = count-take (c .args .a .tangents) (c .args .a .«tangent_count») {
 points : (c : tie.Start) → length (roadIn (c .args .a) .crossfalls) ≡ c .args .a .«crossfall_count»
 points c = count-take (c .args .a .crossfalls) (c .args .a .«crossfall_count») {m = 200} (search (needs, unmapped)) (c .pre .points)
 
-first-tangent-requires : tie.Need-first-tangent-requires
-first-tangent-requires c κs = search needs
-
-one-less-requires : tie.Need-one-less-requires
-one-less-requires c κs = search needs
-
-first-tangent-requires-2 : tie.Need-first-tangent-requires-2
-first-tangent-requires-2 c κs = search needs
-
-plan-length-requires : tie.Need-plan-length-requires
-plan-length-requires c κs = search needs
-
-first-point-requires : tie.Need-first-point-requires
-first-point-requires c κs = search needs
-
-one-less-requires-2 : tie.Need-one-less-requires-2
-one-less-requires-2 c κs = search needs
-
-plan-length-requires-2 : tie.Need-plan-length-requires-2
-plan-length-requires-2 c κs = search needs
-
-first-point-requires-2 : tie.Need-first-point-requires-2
-first-point-requires-2 c κs = search needs
-
 returns : tie.Need-returns
 returns c = let s = c .before .before in c .first-tangent .ensures ∙ later-tangent (s .args .rule) (asLimits (s .args .l)) (roadIn (s .args .a)) _ (c .before .if1 .taken) (sym (tangents s))
 
@@ -56,16 +32,5 @@ returns-4 c = let s = c .before .before .before .before .before .before in c .fi
 pub first-later-spec : {M : Type 1} → statement M
 first-later-spec =
     tie.close
-    (tie.spec
-    first-tangent-requires
-    one-less-requires
-    first-tangent-requires-2
-    plan-length-requires
-    first-point-requires
-    one-less-requires-2
-    plan-length-requires-2
-    first-point-requires-2
-    returns
-    returns-2
-    returns-3
-    returns-4)
+    (tie.spec (λ c _. search needs) (λ c _. search needs) (λ c _. search needs) (λ c _. search needs) (λ c _. search needs) (λ c _. search needs)
+    (λ c _. search needs) (λ c _. search needs) returns returns-2 returns-3 returns-4)

@@ -11,26 +11,11 @@ use Rattle.rules.proofs.first_of.Tie as tie
 elements : (c : tie.Start) → length (roadIn (c .args .a) .plan) ≡ c .args .a .«element_count»
 elements c = count-take (c .args .a .elements) (c .args .a .«element_count») {m = 200} (search (needs, unmapped)) (c .pre .0 .plan)
 
-other-total-requires : tie.Need-other-total-requires
-other-total-requires c κs = search needs
-
-add-first-element : tie.Need-add-first-element
-add-first-element c = search needs
-
-first-element-requires : tie.Need-first-element-requires
-first-element-requires c κs = search needs
-
 first-straight-requires : tie.Need-first-straight-requires
 first-straight-requires c κs = let s = c .before .before .before in (s .pre .0, kinds-run (asLimits (s .args .l)) (roadIn (s .args .a)) (s .args .rule) (c .if3 .taken) (s .pre .1))
 
 first-arc-requires : tie.Need-first-arc-requires
 first-arc-requires c κs = let s = c .before .before .before .before in (s .pre .0, points-ascend (asLimits (s .args .l)) (roadIn (s .args .a)) (s .args .rule) (c .if4 .taken) (s .pre .1))
-
-first-element-requires-2 : tie.Need-first-element-requires-2
-first-element-requires-2 c κs = search needs
-
-first-later-requires : tie.Need-first-later-requires
-first-later-requires c κs = search needs
 
 returns : tie.Need-returns
 returns c = let s = c .before .before in c .other-total .ensures ∙ of-6 (s .args .rule) (asLimits (s .args .l)) (roadIn (s .args .a)) (c .before .if1 .taken)
@@ -53,17 +38,5 @@ returns-6 c = let s = c .before .before .before .before .before .before in c .fi
 pub first-of-spec : {M : Type 1} → statement M
 first-of-spec =
     tie.close
-    (tie.spec
-    other-total-requires
-    add-first-element
-    first-element-requires
-    first-straight-requires
-    first-arc-requires
-    first-element-requires-2
-    first-later-requires
-    returns
-    returns-2
-    returns-3
-    returns-4
-    returns-5
-    returns-6)
+    (tie.spec (λ c _. search needs) (λ c. search needs) (λ c _. search needs) first-straight-requires first-arc-requires (λ c _. search needs)
+    (λ c _. search needs) returns returns-2 returns-3 returns-4 returns-5 returns-6)

@@ -29,30 +29,6 @@ long c = search (needs, unmapped)
 loop-holds : tie.Need-loop-holds Inv-loop μ-loop
 loop-holds c = let h = c .pre in (h .1 .0, h .0 .points, refl, start)
 
-mul-p : tie.Need-mul-p Inv-loop μ-loop
-mul-p c = search needs
-
-element-copy-out-p : tie.Need-element-copy-out-p Inv-loop μ-loop
-element-copy-out-p c = search needs
-
-add-if1 : tie.Need-add-if1 Inv-loop μ-loop
-add-if1 c = search needs
-
-add-next : tie.Need-add-next Inv-loop μ-loop
-add-next c = search needs
-
-mul-next : tie.Need-mul-next Inv-loop μ-loop
-mul-next c = search needs
-
-element-copy-out-next : tie.Need-element-copy-out-next Inv-loop μ-loop
-element-copy-out-next c = search needs
-
-add-point-fails : tie.Need-add-point-fails Inv-loop μ-loop
-add-point-fails c = search needs
-
-point-fails-requires : tie.Need-point-fails-requires Inv-loop μ-loop
-point-fails-requires c κs = search needs
-
 -- the item is that of the road's list, and its test is the rule
 here : (c : tie.After-point-fails Inv-loop μ-loop) → getD (c .before .before .before .before .before .args .t1 .crossfalls) (c .before .before .before .before .loop .place) blankCrossfall ≡ pointOf (roadIn (c .before .before .before .before .before .args .t1)) (c .before .before .before .before .loop .place)
 here c = let v = c .before .before .before .before .loop in let a = c .before .before .before .before .before .args .t1 in let t = c .before .before .before .loop-test .taken in let h = v .inv .0 in item-in (a .crossfalls) (a .«crossfall_count») (v .place) blankCrossfall (omega arith)
@@ -70,12 +46,6 @@ test c =
 returns : tie.Need-returns Inv-loop μ-loop
 returns c = found (c .before .before .before .before .before .loop .inv .3) (c .before .before .before .before .loop-test .taken) (sym (test (c .before)) ∙ c .if2 .taken)
 
-add-place : tie.Need-add-place Inv-loop μ-loop
-add-place c = search needs
-
-loop-less : tie.Need-loop-less Inv-loop μ-loop
-loop-less c = search needs
-
 loop-again : tie.Need-loop-again Inv-loop μ-loop
 loop-again c =
     let v = c .before .before .before .before .before .loop in
@@ -88,20 +58,5 @@ returns-2 c = nothing (c .before .loop .inv .3) (c .loop-test .left)
 pub first-point-spec : {M : Type 1} → statement M
 first-point-spec =
     tie.close
-    (tie.spec
-    Inv-loop
-    μ-loop
-    loop-holds
-    mul-p
-    element-copy-out-p
-    add-if1
-    add-next
-    mul-next
-    element-copy-out-next
-    add-point-fails
-    point-fails-requires
-    returns
-    add-place
-    loop-less
-    loop-again
-    returns-2)
+    (tie.spec Inv-loop μ-loop loop-holds (λ c. search needs) (λ c. search needs) (λ c. search needs) (λ c. search needs) (λ c. search needs)
+    (λ c. search needs) (λ c. search needs) (λ c _. search needs) returns (λ c. search needs) (λ c. search needs) loop-again returns-2)

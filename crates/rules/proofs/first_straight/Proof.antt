@@ -34,27 +34,6 @@ loop-holds : tie.Need-loop-holds Inv-loop μ-loop
 unfolding firstArc
 loop-holds c = (c .pre .0 .plan, refl, start)
 
-mul-e : tie.Need-mul-e Inv-loop μ-loop
-mul-e c = search needs
-
-element-copy-out-e : tie.Need-element-copy-out-e Inv-loop μ-loop
-element-copy-out-e c = search needs
-
-add-if1 : tie.Need-add-if1 Inv-loop μ-loop
-add-if1 c = search needs
-
-add-after : tie.Need-add-after Inv-loop μ-loop
-add-after c = search needs
-
-mul-after : tie.Need-mul-after Inv-loop μ-loop
-mul-after c = search needs
-
-element-copy-out-after : tie.Need-element-copy-out-after Inv-loop μ-loop
-element-copy-out-after c = search needs
-
-is-short-straight-requires : tie.Need-is-short-straight-requires Inv-loop μ-loop
-is-short-straight-requires c κs = search needs
-
 within : (c : tie.After-is-short-straight Inv-loop μ-loop) → c .before .before .before .before .loop .i < length (roadIn (c .before .before .before .before .before .args .t1) .plan)
 within c = let m = count (c .before .before .before .before .before) in let t = c .before .before .before .loop-test .taken in omega arith
 
@@ -73,12 +52,6 @@ test c =
 returns : tie.Need-returns Inv-loop μ-loop
 returns c = found (c .before .before .before .before .before .loop .inv .2) (within (c .before)) (sym (test (c .before)) ∙ c .if2 .taken)
 
-add-i : tie.Need-add-i Inv-loop μ-loop
-add-i c = search needs
-
-loop-less : tie.Need-loop-less Inv-loop μ-loop
-loop-less c = search needs
-
 loop-again : tie.Need-loop-again Inv-loop μ-loop
 loop-again c =
     let d = c .before .before .before in
@@ -94,19 +67,5 @@ returns-2 c = let m = count (c .before .before) in let h = c .loop-test .left in
 pub first-straight-spec : {M : Type 1} → statement M
 first-straight-spec =
     tie.close
-    (tie.spec
-    Inv-loop
-    μ-loop
-    loop-holds
-    mul-e
-    element-copy-out-e
-    add-if1
-    add-after
-    mul-after
-    element-copy-out-after
-    is-short-straight-requires
-    returns
-    add-i
-    loop-less
-    loop-again
-    returns-2)
+    (tie.spec Inv-loop μ-loop loop-holds (λ c. search needs) (λ c. search needs) (λ c. search needs) (λ c. search needs) (λ c. search needs)
+    (λ c. search needs) (λ c _. search needs) returns (λ c. search needs) (λ c. search needs) loop-again returns-2)

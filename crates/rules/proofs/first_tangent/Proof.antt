@@ -25,27 +25,6 @@ abbrev μ-loop : tie.MeasureT-loop
 loop-holds : tie.Need-loop-holds Inv-loop μ-loop
 loop-holds c = let h = c .pre in (h .1, h .0 .profile, refl, start)
 
-mul-t : tie.Need-mul-t Inv-loop μ-loop
-mul-t c = search needs
-
-element-copy-out-t : tie.Need-element-copy-out-t Inv-loop μ-loop
-element-copy-out-t c = search needs
-
-add-if1 : tie.Need-add-if1 Inv-loop μ-loop
-add-if1 c = search needs
-
-add-next : tie.Need-add-next Inv-loop μ-loop
-add-next c = search needs
-
-mul-next : tie.Need-mul-next Inv-loop μ-loop
-mul-next c = search needs
-
-element-copy-out-next : tie.Need-element-copy-out-next Inv-loop μ-loop
-element-copy-out-next c = search needs
-
-tangent-fails-requires : tie.Need-tangent-fails-requires Inv-loop μ-loop
-tangent-fails-requires c κs = search needs
-
 -- the item is that of the road's list, and its test is the rule
 here : (c : tie.After-tangent-fails Inv-loop μ-loop) → getD (c .before .before .before .before .before .args .t1 .tangents) (c .before .before .before .before .loop .i) blankTangent ≡ tangentOf (roadIn (c .before .before .before .before .before .args .t1)) (c .before .before .before .before .loop .i)
 here c = let v = c .before .before .before .before .loop in let a = c .before .before .before .before .before .args .t1 in let t = c .before .before .before .loop-test .taken in let h = v .inv .0 in item-in (a .tangents) (a .«tangent_count») (v .i) blankTangent (omega arith)
@@ -61,12 +40,6 @@ test c =
 returns : tie.Need-returns Inv-loop μ-loop
 returns c = found (c .before .before .before .before .before .loop .inv .3) (c .before .before .before .before .loop-test .taken) (sym (test (c .before)) ∙ c .if2 .taken)
 
-add-i : tie.Need-add-i Inv-loop μ-loop
-add-i c = search needs
-
-loop-less : tie.Need-loop-less Inv-loop μ-loop
-loop-less c = search needs
-
 loop-again : tie.Need-loop-again Inv-loop μ-loop
 loop-again c =
     let v = c .before .before .before .before .before .loop in
@@ -79,19 +52,5 @@ returns-2 c = nothing (c .before .loop .inv .3) (c .loop-test .left)
 pub first-tangent-spec : {M : Type 1} → statement M
 first-tangent-spec =
     tie.close
-    (tie.spec
-    Inv-loop
-    μ-loop
-    loop-holds
-    mul-t
-    element-copy-out-t
-    add-if1
-    add-next
-    mul-next
-    element-copy-out-next
-    tangent-fails-requires
-    returns
-    add-i
-    loop-less
-    loop-again
-    returns-2)
+    (tie.spec Inv-loop μ-loop loop-holds (λ c. search needs) (λ c. search needs) (λ c. search needs) (λ c. search needs) (λ c. search needs)
+    (λ c. search needs) (λ c _. search needs) returns (λ c. search needs) (λ c. search needs) loop-again returns-2)

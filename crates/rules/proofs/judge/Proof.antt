@@ -23,23 +23,11 @@ loop-holds c = let s = c in (omega arith, omega arith, cleared-start (asLimits (
 first-of-requires : tie.Need-first-of-requires Inv-loop μ-loop
 first-of-requires c κs = (c .before .before .pre, c .before .loop .inv .2)
 
-enum-known-place : tie.Need-enum-known-place Inv-loop μ-loop
-enum-known-place c = search needs
-
 returns : tie.Need-returns Inv-loop μ-loop
 returns c =
     let v = c .before .before .before .before .before .loop in
     let s = c .before .before .before .before .before .before in
     judge-at (v .rule) (asLimits (s .args .l)) (roadIn (s .args .a)) _ (c .before .before .before .before .loop-test .taken) (sym (c .before .before .before .first-of .ensures) ∙ ap asOption (c .before .place .given .1)) ∙ v .inv .3
-
-enum-told : tie.Need-enum-told Inv-loop μ-loop
-enum-told c = search needs
-
-add-rule : tie.Need-add-rule Inv-loop μ-loop
-add-rule c = search needs
-
-loop-less : tie.Need-loop-less Inv-loop μ-loop
-loop-less c = search needs
 
 loop-again : tie.Need-loop-again Inv-loop μ-loop
 loop-again c =
@@ -55,15 +43,5 @@ returns-2 c = let v = c .before .loop in let s = c .before .before in judge-end 
 pub judge-spec : {M : Type 1} → statement M
 judge-spec =
     tie.close
-    (tie.spec
-    Inv-loop
-    μ-loop
-    loop-holds
-    first-of-requires
-    enum-known-place
-    returns
-    enum-told
-    add-rule
-    loop-less
-    loop-again
-    returns-2)
+    (tie.spec Inv-loop μ-loop loop-holds first-of-requires (λ c. search needs) returns (λ c. search needs) (λ c. search needs) (λ c. search needs)
+    loop-again returns-2)

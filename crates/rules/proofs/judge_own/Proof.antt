@@ -6,15 +6,9 @@ use borrow.Author.Needs.{needs}
 use Rattle.rules.proofs.judge_own.Statement.{statement}
 use Rattle.rules.proofs.judge_own.Tie as tie
 
-limits-of-requires : tie.Need-limits-of-requires
-limits-of-requires c κs = search needs
-
-judge-requires : tie.Need-judge-requires
-judge-requires c κs = search needs
-
 returns : tie.Need-returns
 unfolding limits
 returns c = c .judge .ensures ∙ ap (λ (l : Limits). judged l (roadIn (c .before .before .args .a))) (c .before .limits-of .ensures)
 
 pub judge-own-spec : {M : Type 1} → statement M
-judge-own-spec = tie.close (tie.spec limits-of-requires judge-requires returns)
+judge-own-spec = tie.close (tie.spec (λ c _. search needs) (λ c _. search needs) returns)

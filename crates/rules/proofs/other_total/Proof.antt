@@ -7,12 +7,6 @@ use borrow.Author.Needs.{needs}
 use Rattle.rules.proofs.other_total.Statement.{statement}
 use Rattle.rules.proofs.other_total.Tie as tie
 
-profile-length-requires : tie.Need-profile-length-requires
-profile-length-requires c κs = search needs
-
-plan-length-requires : tie.Need-plan-length-requires
-plan-length-requires c κs = search needs
-
 returns : tie.Need-returns
 unfolding otherTotal
 returns c = nothing-1 _ (ap not (eq-eqb _ _ (sym (c .before .before .profile-length .ensures) ∙ c .if1 .taken ∙ c .before .plan-length .ensures)))
@@ -22,5 +16,4 @@ unfolding otherTotal
 returns-2 c = found-1 _ (ap not (ne-eqb _ _ (λ e. c .if1 .left (c .before .before .profile-length .ensures ∙ e ∙ sym (c .before .plan-length .ensures)))))
 
 pub other-total-spec : {M : Type 1} → statement M
-other-total-spec =
-    tie.close (tie.spec profile-length-requires plan-length-requires returns returns-2)
+other-total-spec = tie.close (tie.spec (λ c _. search needs) (λ c _. search needs) returns returns-2)

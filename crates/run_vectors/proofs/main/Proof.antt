@@ -11,49 +11,8 @@ Inv-loop count input at₀ at = (length input ≡ length input)
 abbrev μ-loop : tie.MeasureT-loop
 μ-loop count input at₀ at = length input - at
 
-slice-aggregate-read-full : tie.Need-slice-aggregate-read-full Inv-loop μ-loop
-slice-aggregate-read-full c = search needs
-
-read-full-requires : tie.Need-read-full-requires Inv-loop μ-loop
-read-full-requires c κs = search needs
-
-array-share-prefix-space : tie.Need-array-share-prefix-space Inv-loop μ-loop
-array-share-prefix-space c = search needs
-
-slice-aggregate-input : tie.Need-slice-aggregate-input Inv-loop μ-loop
-slice-aggregate-input c = search needs
-
-loop-holds : tie.Need-loop-holds Inv-loop μ-loop
-loop-holds c = search needs
-
-one-run-requires : tie.Need-one-run-requires Inv-loop μ-loop
-one-run-requires c κs = search needs
-
-returns : tie.Need-returns Inv-loop μ-loop
-returns c = search needs
-
-loop-less : tie.Need-loop-less Inv-loop μ-loop
-loop-less c = search needs
-
-loop-again : tie.Need-loop-again Inv-loop μ-loop
-loop-again c = search needs
-
-returns-2 : tie.Need-returns-2 Inv-loop μ-loop
-returns-2 c = search needs
-
 pub main-spec : {M : Type 1} → statement M
 main-spec =
     tie.close
-    (tie.spec
-    Inv-loop
-    μ-loop
-    slice-aggregate-read-full
-    read-full-requires
-    array-share-prefix-space
-    slice-aggregate-input
-    loop-holds
-    one-run-requires
-    returns
-    loop-less
-    loop-again
-    returns-2)
+    (tie.spec Inv-loop μ-loop (λ c. search needs) (λ c _. search needs) (λ c. search needs) (λ c. search needs) (λ c. search needs)
+    (λ c _. search needs) (λ c. search needs) (λ c. search needs) (λ c. search needs) (λ c. search needs))

@@ -3,11 +3,8 @@ use borrow.Author.Needs.{needs}
 use Rattle.runs.proofs.all_sized.Statement.{statement}
 use Rattle.runs.proofs.all_sized.Tie as tie
 
-fits-exactly-requires : tie.Need-fits-exactly-requires
-fits-exactly-requires c κs = search needs
-
 returns : tie.Need-returns
 returns c = rw (c .fits-exactly .ensures)
 
 pub all-sized-spec : {M : Type 1} → statement M
-all-sized-spec = tie.close (tie.spec fits-exactly-requires returns)
+all-sized-spec = tie.close (tie.spec (λ c _. search needs) returns)

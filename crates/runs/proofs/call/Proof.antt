@@ -7,21 +7,6 @@ use borrow.Author.Needs.{needs}
 use Rattle.runs.proofs.call.Statement.{statement}
 use Rattle.runs.proofs.call.Tie as tie
 
-row-requires : tie.Need-row-requires
-row-requires c κs = search needs
-
-row-numbers-requires : tie.Need-row-numbers-requires
-row-numbers-requires c κs = search needs
-
-next-station-requires : tie.Need-next-station-requires
-next-station-requires c κs = search needs
-
-next-numbers-requires : tie.Need-next-numbers-requires
-next-numbers-requires c κs = search needs
-
-same-length : tie.Need-same-length
-same-length c = search needs
-
 returns : tie.Need-returns
 unfolding step
 returns c =
@@ -37,11 +22,4 @@ returns-2 c =
 pub call-spec : {M : Type 1} → statement M
 call-spec =
     tie.close
-    (tie.spec
-    row-requires
-    row-numbers-requires
-    next-station-requires
-    next-numbers-requires
-    same-length
-    returns
-    returns-2)
+    (tie.spec (λ c _. search needs) (λ c _. search needs) (λ c _. search needs) (λ c _. search needs) (λ c. search needs) returns returns-2)

@@ -15,16 +15,10 @@ returns c =
     let a = c .before .args in
     ap (λ (m : ℕ). eqb (a .frames) m) (sym (ap (λ (m : ℕ). a .count * m) (c .if1 .taken) ∙ mul-zero (a .count)))
 
-rem-if2 : tie.Need-rem-if2
-rem-if2 c = search needs
-
 returns-2 : tie.Need-returns-2
 returns-2 c =
     let a = c .before .before .args in
     sym (ne-eqb (a .frames) (a .count * a .size) (no-rest (a .frames) (a .count) (a .size) (c .if2 .taken)))
-
-div-result : tie.Need-div-result
-div-result c = search needs
 
 returns-3 : tie.Need-returns-3
 returns-3 c =
@@ -34,4 +28,4 @@ returns-3 c =
     whole (a .frames) (a .count) (a .size) p (c .if2 .left)
 
 pub fits-exactly-spec : {M : Type 1} → statement M
-fits-exactly-spec = tie.close (tie.spec returns rem-if2 returns-2 div-result returns-3)
+fits-exactly-spec = tie.close (tie.spec returns (λ c. search needs) returns-2 (λ c. search needs) returns-3)

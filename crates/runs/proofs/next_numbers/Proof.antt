@@ -3,18 +3,6 @@ use borrow.Author.Needs.{needs}
 use Rattle.runs.proofs.next_numbers.Statement.{statement}
 use Rattle.runs.proofs.next_numbers.Tie as tie
 
-enum-known-answer : tie.Need-enum-known-answer
-enum-known-answer c = search needs
-
-cast-t6 : tie.Need-cast-t6
-cast-t6 c = search needs
-
-enum-known-answer-2 : tie.Need-enum-known-answer-2
-enum-known-answer-2 c = search needs
-
-enum-told : tie.Need-enum-told
-enum-told c = search needs
-
 returns : tie.Need-returns
 returns c = rw (c .before .answer .given .1)
 
@@ -25,6 +13,4 @@ returns-3 : tie.Need-returns-3
 returns-3 c = rw (c .enum-told .given .1)
 
 pub next-numbers-spec : {M : Type 1} → statement M
-next-numbers-spec =
-    tie.close
-    (tie.spec enum-known-answer cast-t6 enum-known-answer-2 enum-told returns returns-2 returns-3)
+next-numbers-spec = tie.close (tie.spec (λ c. search needs) (λ c. search needs) (λ c. search needs) (λ c. search needs) returns returns-2 returns-3)

@@ -3,15 +3,6 @@ use borrow.Author.Needs.{needs}
 use Rattle.runs.proofs.row_numbers.Statement.{statement}
 use Rattle.runs.proofs.row_numbers.Tie as tie
 
-enum-known-answer : tie.Need-enum-known-answer
-enum-known-answer c = search needs
-
-cast-t6 : tie.Need-cast-t6
-cast-t6 c = search needs
-
-enum-known-answer-2 : tie.Need-enum-known-answer-2
-enum-known-answer-2 c = search needs
-
 returns : tie.Need-returns
 returns c = rw (c .before .answer .given .1)
 
@@ -19,5 +10,4 @@ returns-2 : tie.Need-returns-2
 returns-2 c = rw (c .before .answer2 .given .1)
 
 pub row-numbers-spec : {M : Type 1} → statement M
-row-numbers-spec =
-    tie.close (tie.spec enum-known-answer cast-t6 enum-known-answer-2 returns returns-2)
+row-numbers-spec = tie.close (tie.spec (λ c. search needs) (λ c. search needs) (λ c. search needs) returns returns-2)

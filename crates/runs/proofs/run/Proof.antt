@@ -5,26 +5,8 @@ use borrow.Author.Needs.{needs}
 use Rattle.runs.proofs.run.Statement.{statement}
 use Rattle.runs.proofs.run.Tie as tie
 
-all-sized-requires : tie.Need-all-sized-requires
-all-sized-requires c κs = search needs
-
 run-sized-requires : tie.Need-run-sized-requires
 run-sized-requires c κs = lent (sym (c .before .before .before .before .before .before .all-sized .ensures) ∙ c .before .before .before .before .before .if1 .taken)
-
-same-length : tie.Need-same-length
-same-length c = search needs
-
-same-length-2 : tie.Need-same-length-2
-same-length-2 c = search needs
-
-same-length-3 : tie.Need-same-length-3
-same-length-3 c = search needs
-
-same-length-4 : tie.Need-same-length-4
-same-length-4 c = search needs
-
-same-length-5 : tie.Need-same-length-5
-same-length-5 c = search needs
 
 returns : tie.Need-returns
 returns c =
@@ -42,13 +24,5 @@ returns-2 c = (
 pub run-spec : {M : Type 1} → statement M
 run-spec =
     tie.close
-    (tie.spec
-    all-sized-requires
-    run-sized-requires
-    same-length
-    same-length-2
-    same-length-3
-    same-length-4
-    same-length-5
-    returns
-    returns-2)
+    (tie.spec (λ c _. search needs) run-sized-requires (λ c. search needs) (λ c. search needs) (λ c. search needs) (λ c. search needs)
+    (λ c. search needs) returns returns-2)

@@ -22,15 +22,6 @@ abbrev μ-loop : tie.MeasureT-loop
 loop-holds : tie.Need-loop-holds Inv-loop μ-loop
 loop-holds c = start (c .before .before .before .before .before .before .before .before .pre)
 
-shared-slice-read-record-call : tie.Need-shared-slice-read-record-call Inv-loop μ-loop
-shared-slice-read-record-call c = search needs
-
-mul-record-call : tie.Need-mul-record-call Inv-loop μ-loop
-mul-record-call c = search needs
-
-shared-slice-read-record-call-2 : tie.Need-shared-slice-read-record-call-2 Inv-loop μ-loop
-shared-slice-read-record-call-2 c = search needs
-
 record-call-requires : tie.Need-record-call-requires Inv-loop μ-loop
 record-call-requires c κs = fits (c .before .before .before .before .before .before .before .before .loop .inv) (c .before .before .before .before .before .before .before .loop-test .taken)
 
@@ -39,12 +30,6 @@ add-at c =
     let room = fits (c .before .before .before .before .before .before .before .before .before .before .before .before .before .before .before .before .before .before .before .loop .inv) (c .before .before .before .before .before .before .before .before .before .before .before .before .before .before .before .before .before .before .loop-test .taken) .frame in
     let kept = c .before .before .before .before .before .before .before .before .before .before .record-call .kept .1 .1 .1 .0 in
     omega (arith, c .before .before .before .before .before .before .before .before .before .before .before .before .before .before .before .before .before .before .before .before .before .before .before .before .before .before .before .before .good)
-
-add-k : tie.Need-add-k Inv-loop μ-loop
-add-k c = search needs
-
-loop-less : tie.Need-loop-less Inv-loop μ-loop
-loop-less c = search needs
 
 loop-again : tie.Need-loop-again Inv-loop μ-loop
 loop-again c = turn (c .before .before .before .before .before .before .before .before .before .before .before .before .before .before .before .before .before .before .before .loop .inv) (c .before .before .before .before .before .before .before .before .before .before .before .before .before .before .before .before .before .before .loop-test .taken) (c .before .before .before .before .before .before .before .before .before .before .record-call .ensures)
@@ -73,21 +58,5 @@ returns c =
 pub run-sized-spec : {M : Type 1} → statement M
 run-sized-spec =
     tie.close
-    (tie.spec
-    Inv-loop
-    μ-loop
-    loop-holds
-    shared-slice-read-record-call
-    mul-record-call
-    shared-slice-read-record-call-2
-    record-call-requires
-    add-at
-    add-k
-    loop-less
-    loop-again
-    same-length
-    same-length-2
-    same-length-3
-    same-length-4
-    same-length-5
-    returns)
+    (tie.spec Inv-loop μ-loop loop-holds (λ c. search needs) (λ c. search needs) (λ c. search needs) record-call-requires add-at (λ c. search needs)
+    (λ c. search needs) loop-again same-length same-length-2 same-length-3 same-length-4 same-length-5 returns)

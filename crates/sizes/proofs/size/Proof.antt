@@ -6,11 +6,8 @@ use Rattle.sizes.proofs.Laws.{from-zero}
 use Rattle.sizes.proofs.size.Statement.{statement}
 use Rattle.sizes.proofs.size.Tie as tie
 
-apart-requires : tie.Need-apart-requires
-apart-requires c κs = search needs
-
 returns : tie.Need-returns
 returns c = c .apart .ensures ∙ ap (λ (z : ℤ). natAbs (z -ℤ pos 0)) (toZ-ofZ (c .before .fits .x)) ∙ from-zero (c .before .args .x)
 
 pub size-spec : {M : Type 1} → statement M
-size-spec = tie.close (tie.spec apart-requires returns)
+size-spec = tie.close (tie.spec (λ c _. search needs) returns)

@@ -5,15 +5,6 @@ use Rattle.listed.specs.Least.{asOption}
 use Rattle.stationing.proofs.next_in.Statement.{statement}
 use Rattle.stationing.proofs.next_in.Tie as tie
 
-next-in-requires : tie.Need-next-in-requires
-next-in-requires c κs = search needs
-
-enum-known-next : tie.Need-enum-known-next
-enum-known-next c = search needs
-
-enum-told : tie.Need-enum-told
-enum-told c = search needs
-
 returns : tie.Need-returns
 returns c = ap stationOr (sym (ap asOption (c .before .next .given .1)) ∙ c .before .before .before .next-in .ensures)
 
@@ -21,4 +12,4 @@ returns-2 : tie.Need-returns-2
 returns-2 c = ap stationOr (sym (ap asOption (c .enum-told .given .1)) ∙ c .before .before .next-in .ensures)
 
 pub next-in-spec : {M : Type 1} → statement M
-next-in-spec = tie.close (tie.spec next-in-requires enum-known-next enum-told returns returns-2)
+next-in-spec = tie.close (tie.spec (λ c _. search needs) (λ c. search needs) (λ c. search needs) returns returns-2)

@@ -6,15 +6,6 @@ use Rattle.stationing.specs.Routines.{ready, next-accepted, next-refused
 use Rattle.stationing.proofs.next_station.Statement.{statement}
 use Rattle.stationing.proofs.next_station.Tie as tie
 
-accept-requires : tie.Need-accept-requires
-accept-requires c κs = search needs
-
-enum-known-outcome : tie.Need-enum-known-outcome
-enum-known-outcome c = search needs
-
-enum-told : tie.Need-enum-told
-enum-told c = search needs
-
 next-in-requires : tie.Need-next-in-requires
 next-in-requires c κs =
     let r = c .before .before .before .accept in
@@ -31,6 +22,4 @@ returns-2 c =
     c .next-in .ensures ∙ next-accepted (now (c .before .before .before .before .before .before .args .file)) (c .before .before .before .before .before .before .args .station) _ _ (sym (ap (asGotBy (r .result .alignment)) (c .before .enum-told .given .1)) ∙ r .ensures .0)
 
 pub next-station-spec : {M : Type 1} → statement M
-next-station-spec =
-    tie.close
-    (tie.spec accept-requires enum-known-outcome enum-told next-in-requires returns returns-2)
+next-station-spec = tie.close (tie.spec (λ c _. search needs) (λ c. search needs) (λ c. search needs) next-in-requires returns returns-2)

@@ -16,12 +16,6 @@ use Rattle.stationing.specs.Routines.{overwritten}
 use Rattle.stationing.proofs.put_row.Statement.{statement}
 use Rattle.stationing.proofs.put_row.Tie as tie
 
-limits-of-requires : tie.Need-limits-of-requires
-limits-of-requires c κs = search needs
-
-start-requires : tie.Need-start-requires
-start-requires c κs = search needs
-
 view-at-requires : tie.Need-view-at-requires
 unfolding limits
 view-at-requires c κs =
@@ -34,16 +28,10 @@ shown c =
     let s = c .before .before .before .before in
     c .view-at .ensures .shows (s .args .station) (omega arith) (c .view-at .ensures .beyond) (s .pre .1 .0)
 
-pairs-requires : tie.Need-pairs-requires
-pairs-requires c κs = search needs
-
 put-line-requires : tie.Need-put-line-requires
 put-line-requires c κs =
     let v = c .before .before .before .before in
     (c .before .before .pairs .ensures, (shown v .sound, v .before .before .before .before .pre .1 .1))
-
-same-length : tie.Need-same-length
-same-length c = search needs
 
 returns : tie.Need-returns
 returns c =
@@ -55,11 +43,4 @@ returns c =
 pub put-row-spec : {M : Type 1} → statement M
 put-row-spec =
     tie.close
-    (tie.spec
-    limits-of-requires
-    start-requires
-    view-at-requires
-    pairs-requires
-    put-line-requires
-    same-length
-    returns)
+    (tie.spec (λ c _. search needs) (λ c _. search needs) view-at-requires (λ c _. search needs) put-line-requires (λ c. search needs) returns)

@@ -6,15 +6,6 @@ use Rattle.stationing.specs.Routines.{ready, row-accepted, row-refused}
 use Rattle.stationing.proofs.row.Statement.{statement}
 use Rattle.stationing.proofs.row.Tie as tie
 
-accept-requires : tie.Need-accept-requires
-accept-requires c κs = search needs
-
-enum-known-outcome : tie.Need-enum-known-outcome
-enum-known-outcome c = search needs
-
-enum-told : tie.Need-enum-told
-enum-told c = search needs
-
 row-in-requires : tie.Need-row-in-requires
 row-in-requires c κs =
     let r = c .before .before .before .before .accept in
@@ -26,9 +17,6 @@ returns c =
     let s = c .before .before .before .before .before .before .before .args in
     row-refused (now (s .file)) (s .station) (now (s .line)) _ _ (sym (ap (asGotBy (r .result .alignment)) (c .before .outcome .given .1)) ∙ r .ensures .0)
 
-same-length : tie.Need-same-length
-same-length c = search needs
-
 returns-2 : tie.Need-returns-2
 returns-2 c =
     let r = c .before .before .before .before .before .before .before .accept in
@@ -37,13 +25,4 @@ returns-2 c =
     (c .before .before .row-in .ensures .0 ∙ g .0, c .before .before .row-in .ensures .1 ∙ g .1)
 
 pub row-spec : {M : Type 1} → statement M
-row-spec =
-    tie.close
-    (tie.spec
-    accept-requires
-    enum-known-outcome
-    enum-told
-    row-in-requires
-    returns
-    same-length
-    returns-2)
+row-spec = tie.close (tie.spec (λ c _. search needs) (λ c. search needs) (λ c. search needs) row-in-requires returns (λ c. search needs) returns-2)

@@ -16,20 +16,11 @@ returns c =
     let g = row-short (roadIn (s .a)) (s .station) (now (s .line)) (c .if1 .taken) in
     (g .answered, g .buffer)
 
-plan-length-requires : tie.Need-plan-length-requires
-plan-length-requires c κs = search needs
-
 returns-2 : tie.Need-returns-2
 returns-2 c =
     let s = c .before .before .before .before .args in
     let g = row-beyond (roadIn (s .a)) (s .station) (now (s .line)) (c .before .before .if1 .left) (let e = c .before .plan-length .ensures in let h = c .if2 .taken in omega arith) in
     (g .answered, g .buffer)
-
-put-row-requires : tie.Need-put-row-requires
-put-row-requires c κs = search needs
-
-same-length : tie.Need-same-length
-same-length c = search needs
 
 returns-3 : tie.Need-returns-3
 returns-3 c =
@@ -38,6 +29,4 @@ returns-3 c =
     (ap wrote (c .before .before .put-row .ensures .0) ∙ g .answered, c .before .before .put-row .ensures .1 ∙ g .buffer)
 
 pub row-in-spec : {M : Type 1} → statement M
-row-in-spec =
-    tie.close
-    (tie.spec returns plan-length-requires returns-2 put-row-requires same-length returns-3)
+row-in-spec = tie.close (tie.spec returns (λ c _. search needs) returns-2 (λ c _. search needs) (λ c. search needs) returns-3)

@@ -37,9 +37,6 @@ module _ (c : tie.After-div-floor) where
 add-raised : tie.Need-add-raised
 add-raised c = simp (toZ-ofZ, c .before .fits .line, f-fits c) (top c)
 
-rem-floor-requires : tie.Need-rem-floor-requires
-rem-floor-requires c κs = search needs
-
 module _ (c : tie.After-rem-floor) where
   part-fits : SFits w64 (c .rem-floor .result)
   part-fits = record { sfits = c .rem-floor .ok }
@@ -72,9 +69,6 @@ module _ (c : tie.After-rem-floor2) where
 add-rest : tie.Need-add-rest
 add-rest c = let s = s2 c in simp (toZ-ofZ, part-fits (c .before), s .fits .half, cv.k-fits (s .pre), part-k (c .before), rest-fits c) (m c)
 
-div-floor-requires-2 : tie.Need-div-floor-requires-2
-div-floor-requires-2 c κs = search needs
-
 module _ (c : tie.After-div-floor2) where
   q-fits : SFits w64 (c .div-floor2 .result)
   q-fits = record { sfits = c .div-floor2 .ok }
@@ -99,17 +93,5 @@ returns c = let d = c .before in let b = d .before in let s = s2 b in
 pub curve-height-spec : {M : Type 1} → statement M
 curve-height-spec =
     tie.close
-    (tie.spec
-    mul-bend
-    mul-bend-2
-    mul-scale
-    div-floor-requires
-    add-raised
-    rem-floor-requires
-    mul-rest
-    rem-floor-requires-2
-    add-rest
-    div-floor-requires-2
-    mul-round-parts
-    round-parts-requires
-    returns)
+    (tie.spec mul-bend mul-bend-2 mul-scale div-floor-requires add-raised (λ c _. search needs) mul-rest rem-floor-requires-2 add-rest
+    (λ c _. search needs) mul-round-parts round-parts-requires returns)

@@ -9,9 +9,6 @@ use Rattle.integers.specs.Width.{fits64}
 use Rattle.stretch.proofs.distance.Statement.{statement}
 use Rattle.stretch.proofs.distance.Tie as tie
 
-cast-result : tie.Need-cast-result
-cast-result c = search needs
-
 low : (c : tie.Start) → c .args .x < 9223372036854775808
 low c = omega (arith, c .pre .0)
 
@@ -25,4 +22,4 @@ returns : tie.Need-returns
 returns c = simp (toZ-ofZ, toZ-pos w64 (low c), c .fits .from, past-fits c)
 
 pub distance-spec : {M : Type 1} → statement M
-distance-spec = tie.close (tie.spec cast-result sub-result returns)
+distance-spec = tie.close (tie.spec (λ c. search needs) sub-result returns)

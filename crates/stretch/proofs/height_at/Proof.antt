@@ -36,9 +36,6 @@ module _ (c : tie.After-along) where
   line-is : c .along .result ≡ start gone .args .s .height +ℤ start gone .args .s .grade *ℤ gone .distance .result
   line-is = let p = start gone .pre in simp (toZ-ofZ, f.height-fits p, f.grade-fits p, u-fits gone) at (c .along .ensures)
 
-round-div-requires : tie.Need-round-div-requires
-round-div-requires c κs = search needs
-
 curve-height-requires : tie.Need-curve-height-requires
 curve-height-requires c κs = let a = c .before .before .before .before .before in let d = gone a in let p = start d .pre in
     simp (toZ-ofZ, line-fits a, f.change-fits p, f.half-fits p, u-fits d) (f.height-curve p (u-is d) (line-is a) (c .before .before .if1 .left))
@@ -55,12 +52,4 @@ returns-2 c = let a = c .before .before .before .before .before .before in let d
     (simp (toZ-ofZ, line-fits a, f.change-fits p, f.half-fits p, u-fits d) at (c .curve-height .ensures)))
 
 pub height-at-spec : {M : Type 1} → statement M
-height-at-spec =
-    tie.close
-    (tie.spec
-    distance-requires
-    along-requires
-    round-div-requires
-    curve-height-requires
-    returns
-    returns-2)
+height-at-spec = tie.close (tie.spec distance-requires along-requires (λ c _. search needs) curve-height-requires returns returns-2)

@@ -11,9 +11,6 @@ use Rattle.stretch.proofs.lane_at.Tie as tie
 mul-round-div : tie.Need-mul-round-div
 mul-round-div c = let s = c .before in simp (toZ-ofZ, s .fits .start, s .fits .width) (even-fits (s .pre))
 
-round-div-requires : tie.Need-round-div-requires
-round-div-requires c κs = search needs
-
 returns : tie.Need-returns
 returns c = let s = c .before .before in
     let k : SFits w64 (c .round-div .result) = record { sfits = c .round-div .ok } in
@@ -54,12 +51,4 @@ returns-2 c = let b = c .before .before in let s = s b in
 pub lane-at-spec : {M : Type 1} → statement M
 lane-at-spec =
     tie.close
-    (tie.spec
-    mul-round-div
-    round-div-requires
-    returns
-    mul-along
-    along-requires
-    round-div-requires-2
-    drop-of-requires
-    returns-2)
+    (tie.spec mul-round-div (λ c _. search needs) returns mul-along along-requires round-div-requires-2 drop-of-requires returns-2)

@@ -70,9 +70,6 @@ put-field-requires-4 : tie.Need-put-field-requires-4
 put-field-requires-4 c κs = let b = c .before .before .before in let s = start (one (two b)) in
     (s .pre .0, simp (toZ-ofZ, s .fits .d) (number-room (b .put-field3 .result) (s .args .d) (s .args .after) (third-left b)))
 
-same-length : tie.Need-same-length
-same-length c = search needs
-
 returns : tie.Need-returns
 unfolding four
 returns c =
@@ -82,12 +79,4 @@ returns c =
     wrote-both (first b1) (after-first s) (room s) (wrote-both (second b2) (after-second s) (first-left b1) (wrote-both (third b3) (after-third s) (second-left b2) fourth))
 
 pub put-four-spec : {M : Type 1} → statement M
-put-four-spec =
-    tie.close
-    (tie.spec
-    put-field-requires
-    put-field-requires-2
-    put-field-requires-3
-    put-field-requires-4
-    same-length
-    returns)
+put-four-spec = tie.close (tie.spec put-field-requires put-field-requires-2 put-field-requires-3 put-field-requires-4 (λ c. search needs) returns)

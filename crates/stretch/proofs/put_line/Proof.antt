@@ -14,9 +14,6 @@ use Rattle.stretch.proofs.Written.{Fit, first-half, second-half, number
 use Rattle.stretch.proofs.put_line.Statement.{statement}
 use Rattle.stretch.proofs.put_line.Tie as tie
 
-numbers-at-requires : tie.Need-numbers-at-requires
-numbers-at-requires c κs = search needs
-
 module _ (c : tie.After-numbers-at) where
   abbrev start : tie.Start
   start = c .before .before
@@ -45,9 +42,6 @@ put-four-requires-2 : tie.Need-put-four-requires-2
 put-four-requires-2 c κs = let h = c .before .before .before .before .before .before .before in let b = told h in let f = fit b in
     (start b .pre .0, simp (toZ-ofZ, f .right, f .left-edge, f .right-edge, f .curvature) (rest-room (first h) (second-half (n b)) (room b)))
 
-same-length : tie.Need-same-length
-same-length c = search needs
-
 returns : tie.Need-returns
 returns c =
     let d = c .before .before in let h = d .before .before .before .before .before .before .before .before in let b = told h in let s = start b in let f = fit b in
@@ -58,6 +52,4 @@ returns c =
     (w, omega (arith, w .end, line-length (s .pre .1 .0)))
 
 pub put-line-spec : {M : Type 1} → statement M
-put-line-spec =
-    tie.close
-    (tie.spec numbers-at-requires put-four-requires put-four-requires-2 same-length returns)
+put-line-spec = tie.close (tie.spec (λ c _. search needs) put-four-requires put-four-requires-2 (λ c. search needs) returns)

@@ -18,20 +18,11 @@ use Rattle.walk.proofs.rows_from.Tie as tie
 next-in-requires : tie.Need-next-in-requires
 next-in-requires c κs = (c .before .pre .0 .counted, omega (arith, c .before .pre .0 .road .step .low))
 
-enum-known-first : tie.Need-enum-known-first
-enum-known-first c = search needs
-
 first : (c : tie.After-first) → First (roadIn (c .before .before .before .before .args .a)) (c .before .before .before .before .args .from) (c .first .given .0 .0)
 first c = next-first (roadIn (c .before .before .before .before .args .a)) (c .before .before .before .before .args .from) (sym (c .before .before .next-in .ensures) ∙ ap asOption (c .first .given .1))
 
 rows-on-requires : tie.Need-rows-on-requires
 rows-on-requires c κs = let s = c .before .before .before .before .before .before in (s .pre .0, (s .pre .1, first (c .before .before) .among))
-
-enum-told : tie.Need-enum-told
-enum-told c = search needs
-
-same-length : tie.Need-same-length
-same-length c = search needs
 
 returns : tie.Need-returns
 returns c =
@@ -49,13 +40,4 @@ returns-2 c =
     going-answers (going-starts (chunk r (s .args .from) room) (s .args .out .now) 0 (omega arith)) (chunk-is r (s .args .from) room ∙ ap (rowsThatFit (line r) room) (next-none r (s .args .from) e) ∙ fit-none (line r) room)
 
 pub rows-from-spec : {M : Type 1} → statement M
-rows-from-spec =
-    tie.close
-    (tie.spec
-    next-in-requires
-    enum-known-first
-    rows-on-requires
-    enum-told
-    same-length
-    returns
-    returns-2)
+rows-from-spec = tie.close (tie.spec next-in-requires (λ c. search needs) rows-on-requires (λ c. search needs) (λ c. search needs) returns returns-2)

@@ -28,18 +28,6 @@ Inv-loop a lane first out₀ T step pairs place₀ here₀ bytes₀ out place he
 abbrev μ-loop : tie.MeasureT-loop
 μ-loop a lane first out₀ T step pairs place₀ here₀ bytes₀ out place here bytes = T + 1 - here
 
-total-length-requires : tie.Need-total-length-requires Inv-loop μ-loop
-total-length-requires c κs = search needs
-
-cast-step : tie.Need-cast-step Inv-loop μ-loop
-cast-step c = search needs
-
-pairs-requires : tie.Need-pairs-requires Inv-loop μ-loop
-pairs-requires c κs = search needs
-
-start-requires : tie.Need-start-requires Inv-loop μ-loop
-start-requires c κs = search needs
-
 loop-holds : tie.Need-loop-holds Inv-loop μ-loop
 loop-holds c =
     let s = c .before .before .before .before .before in
@@ -119,20 +107,5 @@ returns-2 c =
 pub rows-on-spec : {M : Type 1} → statement M
 rows-on-spec =
     tie.close
-    (tie.spec
-    Inv-loop
-    μ-loop
-    total-length-requires
-    cast-step
-    pairs-requires
-    start-requires
-    loop-holds
-    sub-if1
-    same-length
-    returns
-    view-at-requires
-    put-stretch-requires
-    loop-less
-    loop-again
-    same-length-2
-    returns-2)
+    (tie.spec Inv-loop μ-loop (λ c _. search needs) (λ c. search needs) (λ c _. search needs) (λ c _. search needs) loop-holds sub-if1 same-length
+    returns view-at-requires put-stretch-requires loop-less loop-again same-length-2 returns-2)

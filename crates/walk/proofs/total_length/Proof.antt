@@ -28,14 +28,8 @@ some s = omega (arith, count s, s .pre .road .point-count .low)
 sub-last : tie.Need-sub-last
 sub-last c = omega (arith, some c)
 
-mul-p : tie.Need-mul-p
-mul-p c = search needs
-
 element-copy-out-p : tie.Need-element-copy-out-p
 element-copy-out-p c = omega (arith, some c, c .pre .counted .points)
-
-cast-result : tie.Need-cast-result
-cast-result c = search needs
 
 returns : tie.Need-returns
 returns c =
@@ -47,4 +41,4 @@ returns c =
     ∙ points-end (s .pre .road .facts-of)
 
 pub total-length-spec : {M : Type 1} → statement M
-total-length-spec = tie.close (tie.spec sub-last mul-p element-copy-out-p cast-result returns)
+total-length-spec = tie.close (tie.spec sub-last (λ c. search needs) element-copy-out-p (λ c. search needs) returns)
