@@ -13,11 +13,12 @@ use Rattle.road.specs.File.{Road}
 use Rattle.road.specs.Exact.{blankElement, blankTangent, blankCrossfall, elementOf, tangentOf, pointOf, elementStart, tangentStart, rise}
 use Rattle.road.specs.Rules.{halfBefore}
 use Rattle.road.specs.Held.{roadIn}
+use Rattle.road.specs.Lists.{element-step, tangent-step}
 use Rattle.road.specs.declared.Alignment.{Alignment}
 use Rattle.road.specs.declared.Element.{Element}
 use Rattle.road.specs.declared.Tangent.{Tangent}
 use Rattle.theorems.specs.Last.{Begun}
-use Rattle.theorems.specs.Facts.{start-next, element-next, rise-next}
+use Rattle.theorems.specs.Facts.{rise-next}
 use Rattle.theorems.specs.Guaranteed.{Guaranteed}
 use Rattle.places.specs.declared.ElementPlace.{ElementPlace}
 use Rattle.places.specs.declared.TangentPlace.{TangentPlace}
@@ -79,7 +80,7 @@ unfolding elementStart sumOf
 element-first r = refl
 
 pub element-end : {r : Road} {p : ElementPlace} {x : ℕ} (e : Element) → ElementReached r p x → e ≡ elementOf r (p .index) → p .begin + e .length ≡ elementStart r (suc (p .index))
-element-end {r} {p} e g q = ap₂ _+_ (g .begin) (ap (λ (e : Element). e .length) q) ∙ sym (element-next r (p .index) (g .at .within))
+element-end {r} {p} e g q = ap₂ _+_ (g .begin) (ap (λ (e : Element). e .length) q) ∙ sym (element-step r (p .index))
 
 pub found-end : {r : Road} {p : ElementPlace} {x : ℕ} (e : Element) → ElementFound r p x → e ≡ elementOf r (p .index) → p .begin + e .length ≡ elementStart r (suc (p .index))
 found-end {r} {p} {x} e f q = element-end {x = x} e (record { begin = f .begin; at = begun-later (f .at) (omega arith) }) q
@@ -92,7 +93,7 @@ element-more {r} {p} {x} e g q h l =
 
 -- ---- the profile
 pub tangent-end : {r : Road} {p : TangentPlace} {x : ℕ} (t : Tangent) → TangentReached r p x → t ≡ tangentOf r (p .index) → p .begin + t .length ≡ tangentStart r (suc (p .index))
-tangent-end {r} {p} t g q = ap₂ _+_ (g .placed .begin) (ap (λ (t : Tangent). t .length) q) ∙ sym (start-next r (p .index) (g .at .within))
+tangent-end {r} {p} t g q = ap₂ _+_ (g .placed .begin) (ap (λ (t : Tangent). t .length) q) ∙ sym (tangent-step r (p .index))
 
 -- the next tangent starts at the height where this one ends
 pub height-next : (r : Road) (i : ℕ) → i < length (r .tangents) → heightStart r (suc i) ≡ heightStart r i +ℤ tangentOf r i .grade *ℤ pos (tangentOf r i .length)
@@ -129,7 +130,7 @@ module _ {r : Road} (G : Guaranteed r) where
       let t = tangentOf r i in
       let a = height-small i (omega arith) in
       let b = abs-product (t .grade) (pos (t .length)) {l = t .length} (G .grade i (omega arith)) (omega arith) in
-      rw (height-next r i (omega arith)) (omega (arith, abs-sum (heightStart r i) (t .grade *ℤ pos (t .length)) a b, start-next r i (omega arith)))
+      rw (height-next r i (omega arith)) (omega (arith, abs-sum (heightStart r i) (t .grade *ℤ pos (t .length)) a b, tangent-step r i))
 
   pub element-below : {p : ElementPlace} {x : ℕ} → ElementReached r p x → p .begin ≤ 100000000
   element-below {p} g = omega (arith, g .begin, G .element-start (p .index) (let h = g .at .within in omega arith), G .whole .high)

@@ -14,7 +14,7 @@ use Rattle.integers.specs.Values.{_then_, positive-mul}
 use Rattle.road.specs.File.{Road}
 use Rattle.road.specs.Exact.{elementOf, elementStart, bend, from_to_}
 use Rattle.road.specs.Ranged.{Within}
-use Rattle.theorems.specs.Facts.{element-next}
+use Rattle.road.specs.Lists.{element-step}
 use Rattle.theorems.specs.Ranges.{element-in, Cycled, straight-at, entry-at, arc-at, exit-at, cycled, kind-at}
 use Rattle.theorems.specs.Curvatures.{straight-curvature, arc-curvature, clothoid-in, clothoid-out}
 use Rattle.theorems.specs.Guaranteed.{Guaranteed}
@@ -152,7 +152,7 @@ module _ {r : Road} (G : Guaranteed r) where
       let l = G .element-length (suc j) h in
       let t = turned-size R in
       record {
-        value = λ y o. clothoid-out (G .accepted-as) j y o (eq-eqb (elementOf r j .kind) 1 a) then out-value R L w l (from elementStart r (suc j) to y) (from y to elementStart r (suc (suc j))) (rest (elementStart r (suc j)) y L (elementStart r (suc (suc j))) (element-next r (suc j) h));
+        value = λ y o. clothoid-out (G .accepted-as) j y o (eq-eqb (elementOf r j .kind) 1 a) then out-value R L w l (from elementStart r (suc j) to y) (from y to elementStart r (suc (suc j))) (rest (elementStart r (suc j)) y L (elementStart r (suc (suc j))) (element-step r (suc j)));
         bend-size = omega (arith, abs-product (turned R) (pos L) {k = 1000000000} {l = 10000000} (omega arith) (l .high));
         change-size = omega (arith, opposite-size R);
         span-low = lt! (nat 0) (nat (natAbs R * L)) (omega (arith, span-positive R L w l));

@@ -13,8 +13,9 @@ use Rattle.road.specs.File.{Road}
 use Rattle.road.specs.Exact.{tangentOf, tangentStart, total, vertexCount, vertex, halfLength, from_to_}
 use Rattle.road.specs.Rules.{halfBefore}
 use Rattle.road.specs.Listed.{stations}
+use Rattle.road.specs.Lists.{tangent-step}
 use Rattle.theorems.specs.Last.{Rising, rises-to, begun-before}
-use Rattle.theorems.specs.Facts.{start-next, curve-begins}
+use Rattle.theorems.specs.Facts.{curve-begins}
 use Rattle.theorems.specs.Small.{abs-from}
 use Rattle.theorems.specs.Stations.{end-station, stations-has, starts-listed, ends-listed}
 use Rattle.theorems.specs.Guaranteed.{Guaranteed}
@@ -131,7 +132,7 @@ module _ {r : Road} (G : Guaranteed r) where
   -- ---- no curve begins or ends between a station and the end of its piece
   begins-rise : Rising (begins r) (length (r .tangents))
   unfolding Rising
-  begins-rise i h = omega (arith, G .facts-of .room i h, start-next r i h)
+  begins-rise i h = omega (arith, G .facts-of .room i h, tangent-step r i)
 
   -- a curve before tangent i, and one after it
   curve-ahead : (j i z : ℕ) → j < i → i < length (r .tangents) → EndOf r j z → z ≤ begins r i

@@ -13,8 +13,8 @@ use Rattle.integers.specs.Fraction.{whole, _≈ᶠ_}
 use Rattle.integers.specs.Values.{_then_}
 use Rattle.road.specs.File.{Road}
 use Rattle.road.specs.Exact.{tangentOf, tangentStart, total, vertexCount, vertex, halfLength, gradeChange, past, startHeight, tangentHeight, curveHeight, height, grade, from_to_}
+use Rattle.road.specs.Lists.{tangent-step}
 use Rattle.theorems.specs.Last.{begun-upto}
-use Rattle.theorems.specs.Facts.{start-next}
 use Rattle.theorems.specs.Pieces.{OnStraight, OnCurve}
 use Rattle.theorems.specs.Joints.{tangent-positive, curve-positive}
 use Rattle.theorems.specs.Heights.{height-straight, height-curve}
@@ -49,7 +49,7 @@ on-curve c = let h = c .high in record { place = c .place; long = c .long; low =
 module _ {r : Road} (G : Guaranteed r) where
   -- where a tangent's straight part ends, the curve has its half length before the vertex
   pub straight-end : (i : ℕ) → i < length (r .tangents) → straightEnd r i + halfLength r i ≡ tangentStart r (suc i)
-  straight-end i h = omega (arith, start-next r i h, G .facts-of .room i h)
+  straight-end i h = omega (arith, tangent-step r i, G .facts-of .room i h)
 
   pub on-straight : {i x : ℕ} → Straight r i x → x ≤ total r → OnStraight r i x
   on-straight {i} {x} s l = record {
@@ -108,7 +108,7 @@ module _ {r : Road} (G : Guaranteed r) where
 
     ahead : (i y : ℕ) → i < vertexCount r → (from tangentStart r i to y) ≡ pos (tangentOf r i .length - halfLength r i) +ℤ past r i y
     ahead i y h =
-        let v = start-next r i (omega arith) in
+        let v = tangent-step r i in
         let w = G .facts-of .room i (omega arith) in
         eq! (nat y ⊖ nat (tangentStart r i)) (nat (tangentOf r i .length - halfLength r i) ⊕ (nat (y + halfLength r i) ⊖ nat (vertex r i))) (omega arith)
 

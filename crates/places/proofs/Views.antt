@@ -20,8 +20,9 @@ use Rattle.road.specs.File.{Road}
 use Rattle.road.specs.Limits.{limits}
 use Rattle.road.specs.Exact.{pointOf, elementStart, total, Side, left, right, crossfallBy, crossfall, edgeDrop, curvature, from_to_}
 use Rattle.road.specs.Listed.{stations, listed}
+use Rattle.road.specs.Lists.{element-step}
 use Rattle.theorems.specs.Last.{Rising, rises-to, Begun, begun-before, begun-upto}
-use Rattle.theorems.specs.Facts.{element-next, elements-rise, points-rise, points-end}
+use Rattle.theorems.specs.Facts.{elements-rise, points-rise, points-end}
 use Rattle.theorems.specs.Small.{abs-from}
 use Rattle.theorems.specs.Stations.{Named, zero-station, end-station, multiple, element-end, curve-start, curve-end, bare-vertex, point, listed-exactly, stations-has, point-listed}
 use Rattle.theorems.specs.Curvatures.{OnElement}
@@ -128,7 +129,7 @@ module _ {r : Road} (G : Guaranteed r) where
         let high = B .high in
         let h = E .below in
         let from-element = E .from in
-        let n = element-next r i h in
+        let n = element-step r i in
         let l = G .element-length i h .high in
         let d : ℕ = y - elementStart r i in
         let u = begun-upto E t in

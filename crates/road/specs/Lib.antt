@@ -4,6 +4,7 @@ pub mod Limits
 pub mod Source
 pub mod Exact
 pub mod Held
+pub mod Lists
 pub mod Listed
 pub mod Rules
 pub mod Line

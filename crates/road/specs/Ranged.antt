@@ -10,6 +10,7 @@ use lib.IntN.{ℤ, pos, negsuc, natAbs}
 use lib.Signed.{leZ}
 use Rattle.number.specs.Reading.{Got, got, refused, andThen, Reading}
 use Rattle.number.specs.Reading.{many}
+use Rattle.decimal.specs.All.{All, none, more}
 use Rattle.road.specs.Base.{if_then_else_}
 use Rattle.number.specs.Number.{number}
 use Rattle.road.specs.File.{Road, inRange, field, signed, between, inSize, radius, element, half, tangent, point, Head, headFields, planFields, Profile, profileFields, crossfallFields, roadOf, fields, ended, read}
@@ -61,10 +62,6 @@ unfolding signed
 signed-fits fits s at e = let w = went (number s at) _ e in in-range fits (signedOf (w .value)) at s (w .next) (w .rest)
 
 -- ---- the three lists
-
-pub data All {A : Type 0} (P : A → Type 0) : List A → Type 0 where
-  none : All P []
-  more : {a : A} {l : List A} → P a → All P l → All P (a ∷ l)
 
 pub record Items {A : Type 0} (P : A → Type 0) (n : ℕ) (l : List A) : Type 0 where
   pub count : length l ≡ n

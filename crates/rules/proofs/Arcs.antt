@@ -19,7 +19,7 @@ use Rattle.road.specs.declared.Element.{Element}
 use Rattle.road.specs.declared.Crossfall.{Crossfall}
 use Rattle.items.specs.Tests.{changesIn, allowedOn, arcTest}
 use Rattle.rules.specs.Judged.{PointsAscend}
-use Rattle.rules.proofs.Items.{element-step}
+use Rattle.road.specs.Lists.{element-step}
 
 -- ---- the last number below n that passes a test
 

@@ -6,7 +6,7 @@ use Prim.Native.Nat.{ℕ, zero, suc, _+_, _-_}
 use lib.ListN.{length, getD}
 use lib.Dec.{eqb, eqb·suc-zero}
 use Rattle.road.specs.File.{Road}
-use Rattle.road.specs.Exact.{blankElement, blankTangent, blankCrossfall, elementOf, tangentOf, pointOf, elementStart, tangentStart, total}
+use Rattle.road.specs.Exact.{blankTangent, blankCrossfall, elementOf, tangentOf, pointOf, elementStart, total}
 use Rattle.road.specs.Rules.{halfBefore, notBeyond, passesLength, wrongKind, longStraight, tightArc, shortArc, shortClothoid, ownArc, steepTangent, shortTangent, sharpVertex, misplaced, wrongCrossfall, steepRamp}
 use Rattle.road.specs.declared.Element.{Element}
 use Rattle.road.specs.declared.Tangent.{Tangent}
@@ -15,16 +15,6 @@ use Rattle.limits.specs.Row.{asLimits}
 use Rattle.limits.specs.declared.Limits.{Limits}
 use Rattle.items.specs.Tests.{wrongKindIn, ownRadius, shortClothoidIn, elementTest, sharpIn, tangentTest, notBeyondBack, misplacedIn, wrongSide, wrongCrossfallIn, steepRampIn, pointTest}
 use Rattle.rules.specs.Judged.{elementBroken, tangentBroken, pointBroken}
-use Rattle.rules.proofs.Lists.{sum-step}
-
--- where the next item begins
-pub element-step : (r : Road) (i : ℕ) → elementStart r (suc i) ≡ elementStart r i + elementOf r i .length
-unfolding elementStart
-element-step r i = sum-step (λ (e : Element). e .length) (r .plan) i blankElement refl
-
-pub tangent-step : (r : Road) (i : ℕ) → tangentStart r (suc i) ≡ tangentStart r i + tangentOf r i .length
-unfolding tangentStart
-tangent-step r i = sum-step (λ (t : Tangent). t .length) (r .tangents) i blankTangent refl
 
 -- the item before item i; a blank one before the first
 abbrev pub tangentBefore : Road → ℕ → Tangent

@@ -1,5 +1,4 @@
 pub mod Search
-pub mod Lists
 pub mod Items
 pub mod Straights
 pub mod Arcs

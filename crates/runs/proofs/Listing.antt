@@ -14,8 +14,8 @@ use Rattle.road.specs.Machine.{After, trace}
 use Rattle.road.specs.Blade.{rowsOf}
 use Rattle.road.specs.Listing.{listingCalls, listingRows}
 use Rattle.road.specs.Positive.{accepted-road}
-use Rattle.road.specs.Ranged.{All}
-use Rattle.road.specs.Ranged as R
+use Rattle.decimal.specs.All.{All}
+use Rattle.decimal.specs.All as all
 use Rattle.theorems.specs.Facts.{facts}
 use Rattle.theorems.specs.Stations.{stations-inside}
 use Rattle.theorems.specs.Ascends.{Ascends, empty, ascending-ascends, ascending-all}
@@ -54,12 +54,12 @@ record Last (x : ℕ) (xs : List ℕ) : Type 0 where
   pub is : xs ≡ front ++ (x ∷ [])
 
 greatest-last : {s : ℕ} (t : ℕ) {xs : List ℕ} → Ascends s xs → All (λ y. y ≤ t) xs → List·Memᴰ t xs → Last t xs
-greatest-last t empty R.none m = absurd (List·Memᴰ·not-nil m)
-greatest-last t {xs = x ∷ xs} (A.step l a) (R.more w v) m = go (List·Memᴰ·cases-cons m) (λ k. greatest-last t a v k)
+greatest-last t empty all.none m = absurd (List·Memᴰ·not-nil m)
+greatest-last t {xs = x ∷ xs} (A.step l a) (all.more w v) m = go (List·Memᴰ·cases-cons m) (λ k. greatest-last t a v k)
   where
     none-after : {zs : List ℕ} → Ascends (suc t) zs → All (λ y. y ≤ t) zs → zs ≡ []
-    none-after empty R.none = refl
-    none-after {zs = z ∷ zs} (A.step l a) (R.more w v) = absurd (omega arith)
+    none-after empty all.none = refl
+    none-after {zs = z ∷ zs} (A.step l a) (all.more w v) = absurd (omega arith)
 
     go : (t ≡ x) ⊎ List·Memᴰ t xs → (List·Memᴰ t xs → Last t xs) → Last t (x ∷ xs)
     go (inl e) ih = record { front = []; is = rw (sym e, none-after (rw (sym e) at a) v) }

@@ -9,8 +9,8 @@ use mir.Syntax.{w64}
 use mir.Val.{SFits}
 use Rattle.integers.specs.Width.{fits64}
 use Rattle.decimal.specs.Decimal.{spaced}
-use Rattle.decimal.specs.ReadBack.{All}
-use Rattle.decimal.specs.ReadBack as R
+use Rattle.decimal.specs.All.{All}
+use Rattle.decimal.specs.All as all
 use Rattle.decimal.specs.Length.{Short}
 use Rattle.stretch.specs.Stretch.{Sound, numbersIn, listOf, lineIn}
 use Rattle.stretch.specs.Line.{four, line-halves, numbers-short, line-length}
@@ -37,7 +37,7 @@ short-fits : (v : ℤ) → Short v → SFits w64 v
 short-fits v h = fits64 v (omega arith)
 
 all-fit : (n : Numbers) → All Short (listOf n) → Fit n
-all-fit n (R.more a (R.more b (R.more c (R.more d (R.more e (R.more f (R.more g (R.more h R.none)))))))) = record {
+all-fit n (all.more a (all.more b (all.more c (all.more d (all.more e (all.more f (all.more g (all.more h all.none)))))))) = record {
   station = short-fits (n .station) a;
   height = short-fits (n .height) b;
   grade = short-fits (n .grade) c;

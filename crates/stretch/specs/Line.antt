@@ -8,8 +8,8 @@ use lib.ListN.{length}
 use Rattle.integers.specs.Bridge.{abs-add}
 use Rattle.integers.specs.Rounding.{rounded, rounded-value}
 use Rattle.decimal.specs.Decimal.{decimal, spaced}
-use Rattle.decimal.specs.ReadBack.{All}
-use Rattle.decimal.specs.ReadBack as R
+use Rattle.decimal.specs.All.{All}
+use Rattle.decimal.specs.All as all
 use Rattle.decimal.specs.Length.{Short, spaced-length}
 use Rattle.road.specs.File.{Road}
 use Rattle.road.specs.Exact.{Side, left, right}
@@ -38,20 +38,20 @@ line-halves n = two-halves (n .station) (n .height) (n .grade) (n .left) (n .rig
 pub numbers-short : {s : Stretch} {x : ℕ} → Sound s x → All Short (listOf (numbersIn s x))
 unfolding numbersIn
 numbers-short {s} {x} p =
-    R.more {c = pos x} (omega (arith, p .station))
-    (R.more {c = rounded (heightIn s x)} (omega (arith, height-size p))
-    (R.more {c = rounded (gradeIn s x)} (omega (arith, grade-size p))
-    (R.more {c = rounded (crossfallIn left s x)} (omega (arith, crossfall-size p left))
-    (R.more {c = rounded (crossfallIn right s x)} (omega (arith, crossfall-size p right))
-    (R.more {c = rounded (heightIn s x) +ℤ rounded (dropIn left s x)} (edge left)
-    (R.more {c = rounded (heightIn s x) +ℤ rounded (dropIn right s x)} (edge right)
-    (R.more {c = rounded (curvatureIn s x)} (omega (arith, curvature-size p)) R.none)))))))
+    all.more {a = pos x} (omega (arith, p .station))
+    (all.more {a = rounded (heightIn s x)} (omega (arith, height-size p))
+    (all.more {a = rounded (gradeIn s x)} (omega (arith, grade-size p))
+    (all.more {a = rounded (crossfallIn left s x)} (omega (arith, crossfall-size p left))
+    (all.more {a = rounded (crossfallIn right s x)} (omega (arith, crossfall-size p right))
+    (all.more {a = rounded (heightIn s x) +ℤ rounded (dropIn left s x)} (edge left)
+    (all.more {a = rounded (heightIn s x) +ℤ rounded (dropIn right s x)} (edge right)
+    (all.more {a = rounded (curvatureIn s x)} (omega (arith, curvature-size p)) all.none)))))))
   where
     edge : (d : Side) → Short (rounded (heightIn s x) +ℤ rounded (dropIn d s x))
     edge d = omega (arith, abs-add (rounded (heightIn s x)) (rounded (dropIn d s x)), height-size p, drop-size p d)
 
 short-line : {v : ℤ} {vs : List ℤ} → All Short (v ∷ vs) → length (spaced (v ∷ vs)) ≤ 12 * suc (length vs)
-short-line {v} {vs} (R.more h a) = spaced-length v vs h a
+short-line {v} {vs} (all.more h a) = spaced-length v vs h a
 
 pub line-length : {s : Stretch} {x : ℕ} → Sound s x → length (lineIn s x) ≤ 96
 unfolding lineIn

@@ -11,8 +11,8 @@ use lib.ListN.{length, getD}
 use lib.Dec.{leb, isLe, isEq}
 use Rattle.road.specs.Base.{if_then_else_}
 use Rattle.road.specs.Listed.{insert, ascending, orLess, leastFrom}
-use Rattle.road.specs.Ranged.{All}
-use Rattle.road.specs.Ranged as R
+use Rattle.decimal.specs.All.{All}
+use Rattle.decimal.specs.All as all
 
 -- ascending, each one time, and none below s
 pub data Ascends : ℕ → List ℕ → Type 0 where
@@ -47,30 +47,26 @@ ascending-ascends [] = empty
 ascending-ascends (x ∷ xs) = insert-ascends x (ascending xs) (omega arith) (ascending-ascends xs)
 
 -- what holds of all members
-pub all-append : {P : ℕ → Type 0} {l m : List ℕ} → All P l → All P m → All P (l ++ m)
-all-append R.none b = b
-all-append (R.more p a) b = R.more p (all-append a b)
-
 insert-all : {P : ℕ → Type 0} (x : ℕ) (ys : List ℕ) → P x → All P ys → All P (insert x ys)
 unfolding insert
-insert-all x [] p a = R.more p R.none
-insert-all {P} x (y ∷ ys) p (R.more q a) = go (compare x y) refl (insert-all x ys p a)
+insert-all x [] p a = all.more p all.none
+insert-all {P} x (y ∷ ys) p (all.more q a) = go (compare x y) refl (insert-all x ys p a)
   where
     go : (o : Ordering) → compare x y ≡ o → All P (insert x ys) → All P (elim o [ Ordering·lt ↦ x ∷ y ∷ ys | Ordering·eq ↦ y ∷ ys | Ordering·gt ↦ y ∷ insert x ys ])
-    go Ordering·lt e ih = R.more p (R.more q a)
-    go Ordering·eq e ih = R.more q a
-    go Ordering·gt e ih = R.more q ih
+    go Ordering·lt e ih = all.more p (all.more q a)
+    go Ordering·eq e ih = all.more q a
+    go Ordering·gt e ih = all.more q ih
 
 pub ascending-all : {P : ℕ → Type 0} {xs : List ℕ} → All P xs → All P (ascending xs)
 unfolding ascending
-ascending-all R.none = R.none
-ascending-all {xs = x ∷ xs} (R.more p a) = insert-all x (ascending xs) p (ascending-all a)
+ascending-all all.none = all.none
+ascending-all {xs = x ∷ xs} (all.more p a) = insert-all x (ascending xs) p (ascending-all a)
 
 -- ---- the least from s on
 pub least-skip : (s : ℕ) {ys : List ℕ} (zs : List ℕ) → All (λ y. y < s) ys → leastFrom s (ys ++ zs) ≡ leastFrom s zs
 unfolding leastFrom
-least-skip s zs R.none = refl
-least-skip s {ys = y ∷ ys} zs (R.more p a) = rw (lt-leb s y p) (least-skip s zs a)
+least-skip s zs all.none = refl
+least-skip s {ys = y ∷ ys} zs (all.more p a) = rw (lt-leb s y p) (least-skip s zs a)
 
 less-kept : (s z k : ℕ) (zs : List ℕ) → z ≤ k → Ascends k zs → orLess z (leastFrom s zs) ≡ z
 unfolding leastFrom

@@ -19,9 +19,9 @@ use Rattle.road.specs.Exact.{blankElement, elementOf, elementStart, elementAt, 
 use Rattle.road.specs.Rules.{rules, tightArc}
 use Rattle.road.specs.Laws.{Kept}
 use Rattle.road.specs.Positive.{Accepted}
+use Rattle.road.specs.Lists.{element-step}
 use Rattle.theorems.specs.Tests.{true-false}
 use Rattle.theorems.specs.Table.{limits-sound}
-use Rattle.theorems.specs.Facts.{element-next}
 use Rattle.theorems.specs.Ranges.{element-in, Cycled, straight-at, entry-at, arc-at, exit-at, cycled, kind-at, arc-place, count-is}
 use Rattle.theorems.specs.Joints.{none-from, ahead-by}
 use Rattle.theorems.specs.Items.{EndToEnd, value-at}
@@ -157,7 +157,7 @@ module _ {r : Road} (A : Accepted r) where
   unfolding clothoidCurvature
   clothoid-end i s h e =
       evenly-end (startCurvature r i) (endCurvature r (suc i)) (from elementStart r i to s) (elementOf r i .length) (start-positive i) (end-positive (suc i)) (element-in A i h .length .low)
-      (ahead-by (elementStart r i) s (elementOf r i .length) (e ∙ element-next r i h))
+      (ahead-by (elementStart r i) s (elementOf r i .length) (e ∙ element-step r i))
 
   -- ---- where two elements meet
   -- a straight or an arc before a clothoid
@@ -186,7 +186,7 @@ module _ {r : Road} (A : Accepted r) where
   -- the exact curvature at a station is that of any element that has the station
   elements : EndToEnd (elementStart r) (length (r .plan)) (curvatureOn r)
   elements = record {
-    ascends = λ i h. omega (arith, element-next r i h, element-in A i h .length .low);
+    ascends = λ i h. omega (arith, element-step r i, element-in A i h .length .low);
     positive = element-positive;
     joint = elements-meet;
   }
@@ -234,17 +234,17 @@ module _ {r : Road} (A : Accepted r) where
       curvature-on (suc i) s o
       then same-value (element-positive (suc i) s h) (on-clothoid r (suc i) s (kind-at A 3 (suc i) h (omega arith)) ∙ q)
       then evenly-out (bend (elementOf r i .radius)) (from elementStart r (suc i) to s) (from s to elementStart r (suc (suc i))) (elementOf r (suc i) .length) (arc-positive i j e) (element-in A (suc i) h .length .low)
-      (rest (elementStart r (suc i)) s (elementOf r (suc i) .length) (elementStart r (suc (suc i))) (element-next r (suc i) h))
+      (rest (elementStart r (suc i)) s (elementOf r (suc i) .length) (elementStart r (suc (suc i))) (element-step r (suc i)))
     where
       rest : (a s l b : ℕ) → b ≡ a + l → (from s to b) ≡ pos l -ℤ (from a to s)
       rest a s l b e = rw e (ring (pos a ∷ pos s ∷ pos l ∷ []) (v0 :+ v2 :- v1) (v2 :- (v1 :- v0)) tt)
 
   -- 0 at its straight end, its arc's at the other
   start-on : (i : ℕ) → i < length (r .plan) → OnElement r i (elementStart r i)
-  start-on i h = record { place = h; low = omega arith; high = omega (arith, element-next r i h) }
+  start-on i h = record { place = h; low = omega arith; high = omega (arith, element-step r i) }
 
   end-on : (i : ℕ) → i < length (r .plan) → OnElement r i (elementStart r (suc i))
-  end-on i h = record { place = h; low = omega (arith, element-next r i h); high = omega arith }
+  end-on i h = record { place = h; low = omega (arith, element-step r i); high = omega arith }
 
   straight-place : (i : ℕ) → i < length (r .plan) → i % 4 ≡ 0 → isStraight (elementOf r i) ≡ true
   straight-place i h m = eq-eqb (elementOf r i .kind) 0 (kind-at A 0 i h m)

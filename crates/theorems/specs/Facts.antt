@@ -11,15 +11,14 @@ use borrow.Author.Tests.{eqb-true, eq-eqb, ltb-false, leb-false, not-false}
 use lib.IntN.{ℤ, pos, _+ℤ_, _*ℤ_, +ℤ-assoc, +ℤ-idl, +ℤ-idr}
 use Rattle.road.specs.Base.{sumOf}
 use Rattle.road.specs.File.{Road}
-use Rattle.road.specs.Exact.{blankElement, blankTangent, elementOf, tangentOf, pointOf, elementStart, tangentStart, total, vertexCount, vertex, halfLength, rise}
+use Rattle.road.specs.Exact.{blankTangent, tangentOf, pointOf, elementStart, tangentStart, total, vertexCount, vertex, halfLength, rise}
 use Rattle.road.specs.Rules.{rules, otherTotal, halfBefore, shortTangent, notBeyond, misplaced}
+use Rattle.road.specs.Lists.{element-step, tangent-step}
 use Rattle.road.specs.Laws.{Kept}
 use Rattle.road.specs.Positive.{Accepted, points-placed}
-use Rattle.road.specs.declared.Element.{Element}
 use Rattle.road.specs.declared.Tangent.{Tangent}
 use Rattle.theorems.specs.Tests.{or-left, or-right, true-false}
 use Rattle.theorems.specs.Last.{Rising, rises-to}
-use Rattle.theorems.specs.Sums.{sum-next, sums-rise}
 
 -- ---- where tangents and elements begin
 rise-append : (l : List Tangent) (t : Tangent) → rise (l ++ (t ∷ [])) ≡ rise l +ℤ t .grade *ℤ pos (t .length)
@@ -27,21 +26,13 @@ unfolding rise
 rise-append [] t = +ℤ-idr (t .grade *ℤ pos (t .length)) ∙ sym (+ℤ-idl (t .grade *ℤ pos (t .length)))
 rise-append (x ∷ l) t = ap (λ (z : ℤ). x .grade *ℤ pos (x .length) +ℤ z) (rise-append l t) ∙ sym (+ℤ-assoc (x .grade *ℤ pos (x .length)) (rise l) (t .grade *ℤ pos (t .length)))
 
-pub start-next : (r : Road) (i : ℕ) → i < length (r .tangents) → tangentStart r (suc i) ≡ tangentStart r i + tangentOf r i .length
-unfolding tangentStart
-start-next r i h = sum-next (λ (t : Tangent). t .length) blankTangent (r .tangents) i h
-
 pub starts-rise : (r : Road) → Rising (tangentStart r) (length (r .tangents))
-unfolding tangentStart
-starts-rise r = sums-rise (λ (t : Tangent). t .length) blankTangent (r .tangents)
-
-pub element-next : (r : Road) (i : ℕ) → i < length (r .plan) → elementStart r (suc i) ≡ elementStart r i + elementOf r i .length
-unfolding elementStart
-element-next r i h = sum-next (λ (e : Element). e .length) blankElement (r .plan) i h
+unfolding Rising
+starts-rise r i h = omega (arith, tangent-step r i)
 
 pub elements-rise : (r : Road) → Rising (elementStart r) (length (r .plan))
-unfolding elementStart
-elements-rise r = sums-rise (λ (e : Element). e .length) blankElement (r .plan)
+unfolding Rising
+elements-rise r i h = omega (arith, element-step r i)
 
 pub rise-next : (r : Road) (i : ℕ) → i < length (r .tangents) → rise (take (suc i) (r .tangents)) ≡ rise (take i (r .tangents)) +ℤ tangentOf r i .grade *ℤ pos (tangentOf r i .length)
 rise-next r i h = ap rise (take-suc (r .tangents) i blankTangent h) ∙ rise-append (take i (r .tangents)) (tangentOf r i)
@@ -134,11 +125,11 @@ Level r = (i : ℕ) → i < vertexCount r → halfLength r i ≡ 0 → tangentOf
 module _ {r : Road} (F : Facts r) where
   -- a curve begins on the tangent before its vertex, and ends on the one after it
   pub curve-begins : (i : ℕ) → i < vertexCount r → tangentStart r i + halfBefore r i + halfLength r i ≤ vertex r i
-  curve-begins i h = omega (arith, F .room i (omega arith), start-next r i (omega arith))
+  curve-begins i h = omega (arith, F .room i (omega arith), tangent-step r i)
 
   pub curve-ends : (i : ℕ) → i < vertexCount r → vertex r i + halfLength r i ≤ total r
   curve-ends i h =
       let a = F .room (suc i) (omega arith) in
-      let b = start-next r (suc i) (omega arith) in
+      let b = tangent-step r (suc i) in
       let c = rises-to (tangentStart r) (length (r .tangents)) (suc (suc i)) (length (r .tangents)) (starts-rise r) (omega arith) (omega arith) in
       omega (arith, F .whole)

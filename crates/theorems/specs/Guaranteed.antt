@@ -15,7 +15,8 @@ use Rattle.road.specs.Ranged.{Within}
 use Rattle.road.specs.Positive.{Accepted, accepted-road}
 use Rattle.theorems.specs.Table.{limits-sound}
 use Rattle.theorems.specs.Facts.{Facts, facts, Level, points-inside, curve-begins, curve-ends}
-use Rattle.theorems.specs.Ranges.{all-at, kinds, element-in, tangent-in, crossfall-in, total-small, total-positive, element-inside, tangent-inside, kind-is, count-is, level}
+use Rattle.decimal.specs.All.{all-at}
+use Rattle.theorems.specs.Ranges.{kinds, element-in, tangent-in, crossfall-in, total-small, total-positive, element-inside, tangent-inside, kind-is, count-is, level}
 use Rattle.theorems.specs.Refusals.{accepted-iff}
 use Rattle.theorems.specs.ReadRanges.{RadiusRange, StartRange, ReadRange, read-ranges}
 

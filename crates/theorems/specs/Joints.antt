@@ -9,8 +9,9 @@ use Rattle.integers.specs.Ring.{_:+_, _:-_, _:*_, #, ring, v0, v1, v2, v3, v4, 
 use Rattle.integers.specs.Fraction.{_÷_, _≈ᶠ_}
 use Rattle.road.specs.File.{Road}
 use Rattle.road.specs.Exact.{tangentOf, tangentStart, vertex, halfLength, gradeChange, rise, startHeight, tangentHeight, curveHeight, past, from_to_}
+use Rattle.road.specs.Lists.{tangent-step}
 use Rattle.integers.specs.Values.{same-value, positive-mul}
-use Rattle.theorems.specs.Facts.{start-next, rise-next}
+use Rattle.theorems.specs.Facts.{rise-next}
 
 pub tangent-positive : (r : Road) (i s : ℕ) → 0 < tangentHeight r i s .den
 unfolding tangentHeight startHeight
@@ -32,7 +33,7 @@ tangent-next r i s h =
     let S = r .start *ℤ pos 1000000 +ℤ rise (take i (r .tangents)) in
     let e : r .start *ℤ pos 1000000 +ℤ rise (take (suc i) (r .tangents)) ≡ S +ℤ g *ℤ pos l =
     ap (λ (x : ℤ). r .start *ℤ pos 1000000 +ℤ x) (rise-next r i h) ∙ ring ((r .start *ℤ pos 1000000) ∷ rise (take i (r .tangents)) ∷ (g *ℤ pos l) ∷ []) (v0 :+ (v1 :+ v2)) (v0 :+ v1 :+ v2) tt in
-    rw (start-next r i h, e) (shift S g (tangentOf r (suc i) .grade) (tangentStart r i) l s)
+    rw (tangent-step r i, e) (shift S g (tangentOf r (suc i) .grade) (tangentStart r i) l s)
 
 -- ---- where the pieces meet
 pub none-from : (a s : ℕ) → s ≡ a → (from a to s) ≡ pos 0

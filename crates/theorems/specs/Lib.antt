@@ -3,7 +3,6 @@
 pub mod Tests
 pub mod Members
 pub mod Ascends
-pub mod Sums
 pub mod Last
 pub mod Items
 pub mod Small

@@ -7,7 +7,8 @@ use lib.ListN.{length}
 use Rattle.integers.specs.Fraction.{Frac, _≈ᶠ_}
 use Rattle.road.specs.File.{Road}
 use Rattle.road.specs.Exact.{elementStart, vertexCount, vertex, halfLength, curveAt, tangentHeight, curveHeight, height, grade, pointOf, Side, crossfallBy, crossfall, curvatureOn, curvature}
-use Rattle.theorems.specs.Facts.{Facts, curve-ends, element-next}
+use Rattle.road.specs.Lists.{element-step}
+use Rattle.theorems.specs.Facts.{Facts, curve-ends}
 use Rattle.theorems.specs.Pieces.{Along, value-curve, value-straight, at-stop, at-begin}
 use Rattle.theorems.specs.Heights.{heights-along}
 use Rattle.theorems.specs.Grades.{tangentGrade, curveGrade, grades-along}
@@ -98,8 +99,8 @@ module _ {r : Road} (G : Guaranteed r) where
   -- ---- an element's end, by either element
   pub element-curvature : (i s : ℕ) → suc i < length (r .plan) → s ≡ elementStart r (suc i) → Meets (curvature r s) (curvatureOn r i s) (curvatureOn r (suc i) s)
   element-curvature i s h e =
-      let a = element-next r i (omega arith) in
-      let b = element-next r (suc i) h in
+      let a = element-step r i in
+      let b = element-step r (suc i) in
       record {
         first = curvature-on (G .accepted-as) i s (record { place = omega arith; low = omega arith; high = omega arith });
         second = curvature-on (G .accepted-as) (suc i) s (record { place = h; low = omega arith; high = omega arith });

@@ -7,8 +7,8 @@ use native.Mathlib.Omega.{arith}
 use native.Mathlib.Decide.{ℕ-discrete}
 use lib.ListN.{length, getD}
 use Rattle.road.specs.Base.{countFrom, joined}
-use Rattle.road.specs.Ranged.{All}
-use Rattle.road.specs.Ranged as R
+use Rattle.decimal.specs.All.{All}
+use Rattle.decimal.specs.All as all
 
 -- i, i + 1, .. , i + n - 1
 counted-has : (k n i : ℕ) → k ≤ i → i < k + n → List·Memᴰ i (countFrom k n)
@@ -73,5 +73,5 @@ joined-from f (a ∷ l) {x} m = go (List·Memᴰ·append-cases (f a) m) (λ n. j
 
 -- what holds of every member
 pub all-members : {P : ℕ → Type 0} (l : List ℕ) → ((x : ℕ) → List·Memᴰ x l → P x) → All P l
-all-members [] h = R.none
-all-members (x ∷ l) h = R.more (h x (List·Memᴰ·head refl)) (all-members l (λ y m. h y (List·Memᴰ·tail m)))
+all-members [] h = all.none
+all-members (x ∷ l) h = all.more (h x (List·Memᴰ·head refl)) (all-members l (λ y m. h y (List·Memᴰ·tail m)))

@@ -14,8 +14,9 @@ use Rattle.road.specs.File.{Road}
 use Rattle.road.specs.Exact.{tangentStart, tangentAt, total, vertexCount, vertex, halfLength, inCurve, curveAt}
 use Rattle.road.specs.Rules.{halfBefore}
 use Rattle.road.specs.Laws.{first-some, first-none}
+use Rattle.road.specs.Lists.{tangent-step}
 use Rattle.theorems.specs.Tests.{true-false, and-left, and-right, and-both}
-use Rattle.theorems.specs.Facts.{Facts, start-first, start-next}
+use Rattle.theorems.specs.Facts.{Facts, start-first}
 use Rattle.theorems.specs.Last.{Rising, rises-to, Begun, begun, begun-upto}
 
 pub record OnStraight (r : Road) (i s : ℕ) : Type 0 where
@@ -70,20 +71,20 @@ begins r i = tangentStart r i + halfBefore r i
 module _ {r : Road} (F : Facts r) where
   rising : Rising (begins r) (length (r .tangents))
   unfolding Rising
-  rising i h = omega (arith, F .room i h, start-next r i h)
+  rising i h = omega (arith, F .room i h, tangent-step r i)
 
   -- the straight part begins where the curve before it ends
   pub at-begin : (i s : ℕ) → suc i < length (r .tangents) → s ≡ vertex r i + halfLength r i → OnStraight r (suc i) s
   at-begin i s h e =
       let a = F .room (suc i) h in
-      let b = start-next r (suc i) h in
+      let b = tangent-step r (suc i) in
       record { place = h; low = omega arith; high = λ l. omega arith; upto = omega arith }
 
   -- where the straight part before a curve ends
   pub at-stop : (i s : ℕ) → i < vertexCount r → s + halfLength r i ≡ vertex r i → OnStraight r i s
   at-stop i s h e =
       let a = F .room i (omega arith) in
-      let b = start-next r i (omega arith) in
+      let b = tangent-step r i in
       record { place = omega arith; low = omega arith; high = λ l. omega arith; upto = omega arith }
 
   -- where there is no curve, the tangent at s has s on its straight part
@@ -142,7 +143,7 @@ module _ {r : Road} (F : Facts r) where
             let u = b .high (omega arith) in
             let v = rises-to (begins r) (length (r .tangents)) (suc j) i rising l (omega arith) in
             let w = F .room i (omega arith) in
-            let x = start-next r i (omega arith) in
+            let x = tangent-step r i in
             let y = a .low in
             omega arith
 
@@ -172,7 +173,7 @@ module _ {r : Road} (F : Facts r) where
         let p = b .place in
         let v = rises-to (begins r) (length (r .tangents)) (suc i) j rising l (omega arith) in
         let w = F .room j (omega arith) in
-        let x = start-next r j (omega arith) in
+        let x = tangent-step r j in
         let y = b .low in
         let z = a .high in
         let e : s ≡ vertex r i + halfLength r i = omega arith in

@@ -17,17 +17,13 @@ use Rattle.road.specs.Limits.{limits}
 use Rattle.road.specs.Exact.{blankElement, blankTangent, blankCrossfall, elementOf, tangentOf, pointOf, elementStart, tangentStart, total, halfLength, gradeChange, Side, left, right, crossfallOf}
 use Rattle.road.specs.Rules.{rules, passesLength, wrongKind, verticalRadius, sharpVertex}
 use Rattle.road.specs.Laws.{Kept}
-use Rattle.road.specs.Ranged.{All, ElementRange, TangentRange, PointRange}
-use Rattle.road.specs.Ranged as R
+use Rattle.decimal.specs.All.{all-at}
+use Rattle.road.specs.Ranged.{ElementRange, TangentRange, PointRange}
 use Rattle.road.specs.Positive.{Accepted}
+use Rattle.road.specs.Lists.{element-step}
 use Rattle.theorems.specs.Table.{limits-sound}
 use Rattle.theorems.specs.Last.{rises-to}
-use Rattle.theorems.specs.Facts.{facts, Level, starts-rise, element-next, elements-rise}
-
-pub all-at : {A : Type 0} {P : A → Type 0} {l : List A} (d : A) (i : ℕ) → All P l → i < length l → P (getD l i d)
-all-at d i R.none h = absurd (omega arith)
-all-at d zero (R.more p a) h = p
-all-at d (suc i) (R.more p a) h = all-at d i a (omega arith)
+use Rattle.theorems.specs.Facts.{facts, Level, starts-rise, elements-rise}
 
 -- the kinds of the plan, over and over: straight, clothoid, arc, clothoid
 abbrev pub kinds : List ℕ
@@ -84,7 +80,7 @@ module _ {r : Road} (A : Accepted r) where
   pub total-positive : 1 ≤ total r
   total-positive =
       let one = A .ranges .plan .count .low in
-      omega (arith, element-inside 1 one, element-next r 0 one, element-in 0 one .length .low)
+      omega (arith, element-inside 1 one, element-step r 0, element-in 0 one .length .low)
 
   -- ---- rule 7
   pub kind-is : (i : ℕ) → i < length (r .plan) → elementOf r i .kind ≡ getD kinds (i % 4) 0

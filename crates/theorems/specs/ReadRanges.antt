@@ -12,7 +12,8 @@ use Rattle.number.specs.Reading.{got, refused, andThen, many}
 use Rattle.road.specs.Base.{if_then_else_}
 use Rattle.road.specs.File.{Road, Profile, field, signed, between, inSize, radius, element, tangent, headFields, planFields, profileFields, crossfallFields, roadOf, fields, ended, read}
 use Rattle.road.specs.Exact.{blankTangent, isArc}
-use Rattle.road.specs.Ranged.{went, refused-not-got, field-within, signed-fits, Within, All, many-items, TangentRange, tangent-range}
+use Rattle.decimal.specs.All.{All}
+use Rattle.road.specs.Ranged.{went, refused-not-got, field-within, signed-fits, Within, many-items, TangentRange, tangent-range}
 use Rattle.road.specs.declared.Element.{Element}
 use Rattle.road.specs.declared.Tangent.{Tangent}
 use Rattle.theorems.specs.Tests.{and-T, true-false}

@@ -8,28 +8,31 @@ use native.Mathlib.Omega.{arith}
 use native.Mathlib.Nat.{mul-le-mul-left}
 use lib.ListN.{length, take}
 use lib.IntN.{ℤ, pos, negsuc, _+ℤ_, _-ℤ_, _*ℤ_, natAbs}
+use Rattle.integers.specs.Bridge.{abs-sum, abs-difference, abs-product}
 use Rattle.road.specs.Base.{if_then_else_, sumOf}
 use Rattle.integers.specs.Fraction.{_÷_, whole, _+ᶠ_, _-ᶠ_, _×ᶠ_}
 use Rattle.road.specs.File.{Road}
 use Rattle.road.specs.Limits.{limits}
 use Rattle.road.specs.Exact.{total, tangentOf, pointOf, elementOf, elementStart, elementAt, isStraight, isArc, tangentStart, tangentAt, vertexCount, vertex, halfLength, gradeChange, past, rise, startHeight, tangentHeight, inCurve, curveAt, curveHeight, heightBy, height, gradeBy, grade, Side, crossfallOf, crossfallBy, crossfall, pointAt, edgeDrop, bend, endCurvature, startCurvature, clothoidCurvature, curvatureOn, curvature, from_to_}
 use Rattle.road.specs.Laws.{first-some}
-use Rattle.road.specs.Ranged.{All, TangentRange}
-use Rattle.road.specs.Ranged as R
+use Rattle.decimal.specs.All.{All}
+use Rattle.road.specs.Ranged.{TangentRange}
+use Rattle.decimal.specs.All as all
 use Rattle.road.specs.Positive.{Accepted}
+use Rattle.road.specs.Lists.{element-step}
 use Rattle.road.specs.declared.Tangent.{Tangent}
 use Rattle.theorems.specs.Table.{limits-sound}
-use Rattle.theorems.specs.Facts.{facts, start-first, element-next, points-end}
+use Rattle.theorems.specs.Facts.{facts, start-first, points-end}
 use Rattle.theorems.specs.Ranges.{total-small, tangent-inside, tangent-in, crossfall-in}
 use Rattle.theorems.specs.Last.{Begun, begun, begun-upto}
 use Rattle.theorems.specs.Pieces.{OnCurve, on-curve}
-use Rattle.theorems.specs.Small.{Small, abs-product, abs-sum, abs-less, abs-from, small-sum, small-less, small-product}
+use Rattle.theorems.specs.Small.{Small, abs-from, small-sum, small-less, small-product}
 
 rise-small : {l : List Tangent} (i : ℕ) → All TangentRange l → natAbs (rise (take i l)) ≤ 120000 * sumOf (λ (t : Tangent). t .length) (take i l)
 unfolding rise sumOf
 rise-small zero a = omega arith
-rise-small (suc i) R.none = omega arith
-rise-small {l = t ∷ l} (suc i) (R.more p a) =
+rise-small (suc i) all.none = omega arith
+rise-small {l = t ∷ l} (suc i) (all.more p a) =
     let h = abs-sum (t .grade *ℤ pos (t .length)) (rise (take i l)) (abs-product (t .grade) (pos (t .length)) {l = t .length} (p .grade) (omega arith)) (rise-small i a) in
     omega arith
 
@@ -49,7 +52,7 @@ module _ {r : Road} (A : Accepted r) where
       omega arith
 
   change-size : (i : ℕ) → i < vertexCount r → natAbs (gradeChange r i) ≤ 240000
-  change-size i h = abs-less (tangentOf r (suc i) .grade) (tangentOf r i .grade) (tangent-in A (suc i) (omega arith) .grade) (tangent-in A i (omega arith) .grade)
+  change-size i h = abs-difference (tangentOf r (suc i) .grade) (tangentOf r i .grade) (tangent-in A (suc i) (omega arith) .grade) (tangent-in A i (omega arith) .grade)
 
   -- u, in a curve
   past-size : (i s : ℕ) → OnCurve r i s → natAbs (past r i s) ≤ 2 * halfLength r i
@@ -116,7 +119,7 @@ module _ {r : Road} (A : Accepted r) where
       let c0 = crossfall-in A d i (omega arith) in
       let c1 = crossfall-in A d (suc i) (omega arith) in
       let a = abs-product (crossfallOf d (pointOf r i)) (pos w) {l = w} c0 (omega arith) in
-      let b = abs-product (crossfallOf d (pointOf r (suc i)) -ℤ crossfallOf d (pointOf r i)) (from pointOf r i .station to s) (abs-less (crossfallOf d (pointOf r (suc i))) (crossfallOf d (pointOf r i)) c1 c0) (abs-from (pointOf r i .station) s w (omega arith) (omega arith)) in
+      let b = abs-product (crossfallOf d (pointOf r (suc i)) -ℤ crossfallOf d (pointOf r i)) (from pointOf r i .station to s) (abs-difference (crossfallOf d (pointOf r (suc i))) (crossfallOf d (pointOf r i)) c1 c0) (abs-from (pointOf r i .station) s w (omega arith) (omega arith)) in
       let c = abs-product ((crossfallOf d (pointOf r (suc i)) -ℤ crossfallOf d (pointOf r i)) *ℤ (from pointOf r i .station to s)) (pos 1) {l = 1} b (omega arith) in
       let z = abs-sum (crossfallOf d (pointOf r i) *ℤ pos w) ((crossfallOf d (pointOf r (suc i)) -ℤ crossfallOf d (pointOf r i)) *ℤ (from pointOf r i .station to s) *ℤ pos 1) a c in
       omega arith
@@ -151,7 +154,7 @@ module _ {r : Road} (A : Accepted r) where
   curvature-small s l =
       let i = elementAt r s in
       let g : Begun (elementStart r) (length (r .plan)) s i = begun (elementStart r) (length (r .plan)) s (A .ranges .plan .count .low) (omega arith) in
-      kinds i (element-next r i (g .below)) (g .from) (begun-upto g l) (isStraight (elementOf r i)) (isArc (elementOf r i))
+      kinds i (element-step r i) (g .from) (begun-upto g l) (isStraight (elementOf r i)) (isArc (elementOf r i))
     where
       kinds : (i : ℕ) → elementStart r (suc i) ≡ elementStart r i + elementOf r i .length → elementStart r i ≤ s → s ≤ elementStart r (suc i) → (a b : Bool)
           → Small (if a then whole (pos 0) else if b then bend (elementOf r i .radius) else startCurvature r i +ᶠ (endCurvature r (suc i) -ᶠ startCurvature r i) ×ᶠ ((from elementStart r i to s) ÷ (elementOf r i .length))) 3000000000

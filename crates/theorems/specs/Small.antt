@@ -3,9 +3,9 @@ use mathlib.Core.Path.{_≡_, sym, subst}
 use Prim.Native.Nat.{ℕ, zero, suc, _+_, _*_, _≤_, _<_}
 use native.Mathlib.Omega.{arith}
 use native.Mathlib.Decide.{decLt}
-use native.Mathlib.Nat.{mul-le-mul, div-zero, le-of-mul-le-mul-right}
+use native.Mathlib.Nat.{div-zero, le-of-mul-le-mul-right}
 use lib.IntN.{ℤ, pos, negsuc, _+ℤ_, _-ℤ_, _*ℤ_, natAbs}
-use Rattle.integers.specs.Bridge.{int, nat, _⊖_, abs!, abs?, abs-add, abs-mul}
+use Rattle.integers.specs.Bridge.{int, nat, _⊖_, abs!, abs?, abs-mul, abs-sum, abs-difference, abs-product}
 use Rattle.integers.specs.Rounding.{floor, round, rounded, round-near}
 use Rattle.integers.specs.Fraction.{Frac, _+ᶠ_, _-ᶠ_, _×ᶠ_}
 use Rattle.road.specs.Exact.{from_to_}
@@ -13,15 +13,6 @@ use Rattle.road.specs.Exact.{from_to_}
 -- of a size of at most B; a denominator of 0 says nothing
 unfoldable pub Small : Frac → ℕ → Type 0
 Small f B = 0 < f .den → natAbs (f .num) ≤ B * f .den
-
-pub abs-product : (a b : ℤ) {k l : ℕ} → natAbs a ≤ k → natAbs b ≤ l → natAbs (a *ℤ b) ≤ k * l
-abs-product a b {k} {l} h g = omega (arith, abs-mul a b, mul-le-mul h g)
-
-pub abs-sum : (a b : ℤ) {k l : ℕ} → natAbs a ≤ k → natAbs b ≤ l → natAbs (a +ℤ b) ≤ k + l
-abs-sum a b h g = omega (arith, abs-add a b)
-
-pub abs-less : (a b : ℤ) {k l : ℕ} → natAbs a ≤ k → natAbs b ≤ l → natAbs (a -ℤ b) ≤ k + l
-abs-less a b {k} {l} h g = let x = abs? (int a) k h in let y = abs? (int b) l g in abs! (int a ⊖ int b) (k + l) (omega arith) (omega arith)
 
 pub abs-from : (a s k : ℕ) → a ≤ s + k → s ≤ a + k → natAbs (from a to s) ≤ k
 abs-from a s k h g = abs! (nat s ⊖ nat a) k (omega arith) (omega arith)
@@ -42,7 +33,7 @@ pub small-less : (f g : Frac) (A B : ℕ) → Small f A → Small g B → Small 
 unfolding Small
 small-less f g A B h k q =
     let p = factors (f .den) (g .den) q in
-    omega (arith, abs-less (f .num *ℤ pos (g .den)) (g .num *ℤ pos (f .den)) (abs-product (f .num) (pos (g .den)) {l = g .den} (h (p .0)) (omega arith)) (abs-product (g .num) (pos (f .den)) {l = f .den} (k (p .1)) (omega arith)))
+    omega (arith, abs-difference (f .num *ℤ pos (g .den)) (g .num *ℤ pos (f .den)) (abs-product (f .num) (pos (g .den)) {l = g .den} (h (p .0)) (omega arith)) (abs-product (g .num) (pos (f .den)) {l = f .den} (k (p .1)) (omega arith)))
 
 pub small-product : (f g : Frac) (A B : ℕ) → Small f A → Small g B → Small (f ×ᶠ g) (A * B)
 unfolding Small

@@ -13,7 +13,7 @@ use Rattle.road.specs.Base.{if_then_else_, countFrom, joined}
 use Rattle.road.specs.File.{Road}
 use Rattle.road.specs.Exact.{blankCrossfall, total, elementStart, vertexCount, vertex, halfLength, pointOf}
 use Rattle.road.specs.Listed.{multiples, elementEnds, curveStations, stations, listed}
-use Rattle.road.specs.Ranged.{All}
+use Rattle.decimal.specs.All.{All}
 use Rattle.road.specs.declared.Crossfall.{Crossfall}
 use Rattle.theorems.specs.Facts.{Facts, curve-begins, curve-ends, elements-rise, points-inside}
 use Rattle.theorems.specs.Last.{rises-to}

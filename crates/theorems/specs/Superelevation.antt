@@ -22,9 +22,10 @@ use Rattle.road.specs.Limits.{Limits, noRule, ruled}
 use Rattle.road.specs.Exact.{elementOf, isArc, elementStart, total, pointOf, pointAt, Side, left, right, crossfallOf, crossfallBy, crossfall, from_to_}
 use Rattle.road.specs.Rules.{eqZ, changes, meets, changesOn, inner, superelevated, crowned, wrongSuperelevation}
 use Rattle.road.specs.Laws.{first-none, first-clear}
+use Rattle.road.specs.Lists.{element-step}
 use Rattle.road.specs.declared.Crossfall.{Crossfall}
 use Rattle.theorems.specs.Tests.{true-false, and-left, and-right, and-both, or-left, or-right, or-true}
-use Rattle.theorems.specs.Facts.{Placed, placed-rise, placed-end, element-next, elements-rise}
+use Rattle.theorems.specs.Facts.{Placed, placed-rise, placed-end, elements-rise}
 use Rattle.theorems.specs.Last.{rises-to, Begun, begun, begun-before}
 use Rattle.theorems.specs.Crossfalls.{by-positive, crossfall-by}
 
@@ -271,7 +272,7 @@ superelevation-iff {r} P l i h long = (λ e q. there (isArc (elementOf r i)) q e
     p = startPoint r i
 
     steady : (changesOn r i ≡ false) ↔ Constant r i
-    steady = constant-iff P i (omega (arith, element-next r i h)) (rises-to (elementStart r) (length (r .plan)) (suc i) (length (r .plan)) (elements-rise r) h (omega arith))
+    steady = constant-iff P i (omega (arith, element-step r i)) (rises-to (elementStart r) (length (r .plan)) (suc i) (length (r .plan)) (elements-rise r) h (omega arith))
 
     form : (superelevated R p ≡ true) ⊎ (crowned l R p ≡ true) → Superelevated R p ⊎ Crowned l R p
     form (inl e) = inl (superelevated-iff R p .0 e)

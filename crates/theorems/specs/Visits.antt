@@ -18,9 +18,9 @@ use Rattle.road.specs.Laws.{least-ascending}
 use Rattle.road.specs.Machine.{Call, row, next, Answer, wrote, station, noStation, rowOn, bufferOn, rowAnswer, rowBuffer, overwrite, nextOn, stationOr, nextAnswer, step, trace}
 use Rattle.road.specs.Blade.{Row, rowIn, rowsOf}
 use Rattle.road.specs.Listing.{callsFrom, listingCalls, rowsAtMost, listingRows}
-use Rattle.road.specs.Ranged.{All}
-use Rattle.road.specs.Ranged as R
-use Rattle.theorems.specs.Ascends.{Ascends, empty, ascending-ascends, ascending-all, all-append, least-skip, least-next}
+use Rattle.decimal.specs.All.{All, all-append}
+use Rattle.decimal.specs.All as all
+use Rattle.theorems.specs.Ascends.{Ascends, empty, ascending-ascends, ascending-all, least-skip, least-next}
 use Rattle.theorems.specs.Ascends as A
 
 -- the row of a station
@@ -28,8 +28,8 @@ abbrev pub rowAt : Road → ℕ → Row
 rowAt r s = record { station = s; bytes = line r s }
 
 all-raise : {s t : ℕ} {l : List ℕ} → s ≤ t → All (λ y. y < s) l → All (λ y. y < t) l
-all-raise h R.none = R.none
-all-raise {l = y ∷ l} h (R.more p a) = R.more {a = y} (omega arith) (all-raise h a)
+all-raise h all.none = all.none
+all-raise {l = y ∷ l} h (all.more p a) = all.more {a = y} (omega arith) (all-raise h a)
 
 -- a line over a buffer leaves it no shorter
 overwrite-room : (l b : List ℕ) → length b ≤ length (overwrite l b)
@@ -80,16 +80,16 @@ module _ (f : List ℕ) (r : Road) (end : ℕ) (e : accepted f ≡ got r end) wh
       → rows b (callsFrom n f s) ≡ map (rowAt r) zs
   unfolding rows rowsOf trace step
   visits n s ys [] b q below empty within h room = ap (rows b) (calls-end n s (next-answer s ys [] q below ∙ ap stationOr (none-left s)))
-  visits zero s ys (z ∷ zs) b q below (A.step l a) (R.more w v) h room = absurd (omega arith)
-  visits (suc n) s ys (z ∷ zs) b q below (A.step l a) (R.more w v) h room =
+  visits zero s ys (z ∷ zs) b q below (A.step l a) (all.more w v) h room = absurd (omega arith)
+  visits (suc n) s ys (z ∷ zs) b q below (A.step l a) (all.more w v) h room =
       ap (rows b) (calls-more n s z (next-answer s ys (z ∷ zs) q below ∙ ap stationOr (least-next s z zs l a)))
       ∙ rows-more s z b (callsFrom n f (suc z)) w room
       ∙ ap (λ (x : List Row). rowAt r z ∷ x)
-      (visits n (suc z) (ys ++ (z ∷ [])) zs (overwrite (line r z) b) (q ∙ sym (append-assoc ys (z ∷ []) zs)) (all-append (all-raise (omega arith) below) (R.more {a = z} (omega arith) R.none)) a v (omega arith) (omega (arith, overwrite-room (line r z) b)))
+      (visits n (suc z) (ys ++ (z ∷ [])) zs (overwrite (line r z) b) (q ∙ sym (append-assoc ys (z ∷ []) zs)) (all-append (all-raise (omega arith) below) (all.more {a = z} (omega arith) all.none)) a v (omega arith) (omega (arith, overwrite-room (line r z) b)))
 
   -- where no listed station is beyond T
   pub listing-rows : All (λ z. z ≤ total r) (stations r) → (b : List ℕ) → 96 ≤ length b → listingRows f b ≡ map (rowAt r) (listed r)
   unfolding listingRows listingCalls rows listed
   listing-rows within b room =
       ap (λ (g : Got Road). rows b (callsFrom (rowsAtMost g) f 0)) e
-      ∙ visits (suc (total r)) 0 [] (listed r) b refl R.none (ascending-ascends (stations r)) (ascending-all within) (omega arith) room
+      ∙ visits (suc (total r)) 0 [] (listed r) b refl all.none (ascending-ascends (stations r)) (ascending-all within) (omega arith) room

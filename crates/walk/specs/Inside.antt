@@ -9,8 +9,8 @@ use Rattle.road.specs.File.{Road}
 use Rattle.road.specs.Exact.{total}
 use Rattle.road.specs.Listed.{stations, listed}
 use Rattle.road.specs.Line.{line}
-use Rattle.road.specs.Ranged.{All}
-use Rattle.road.specs.Ranged as R
+use Rattle.decimal.specs.All.{All}
+use Rattle.decimal.specs.All as all
 use Rattle.theorems.specs.Ascends.{Ascends, ascending-ascends}
 use Rattle.theorems.specs.Next.{listed-from}
 use Rattle.theorems.specs.Stations.{stations-inside}
@@ -21,8 +21,8 @@ use Rattle.walk.specs.NotBelow.{from-none, from-member}
 use Rattle.walk.specs.Parts.{fit-room}
 
 member-has : {P : ℕ → Type 0} {l : List ℕ} {z : ℕ} → All P l → List·Memᴰ z l → P z
-member-has R.none m = absurd (List·Memᴰ·not-nil m)
-member-has {P} {z = z} (R.more {a = x} {l = l} p a) m = go (List·Memᴰ·cases-cons m) (λ n. member-has a n)
+member-has all.none m = absurd (List·Memᴰ·not-nil m)
+member-has {P} {z = z} (all.more {a = x} {l = l} p a) m = go (List·Memᴰ·cases-cons m) (λ n. member-has a n)
   where
     go : (z ≡ x) ⊎ List·Memᴰ z l → (List·Memᴰ z l → P z) → P z
     go (inl e) ih = rw e p

@@ -14,5 +14,5 @@ abbrev μ-loop : tie.MeasureT-loop
 pub accepted-often-spec : {M : Type 1} → statement M
 accepted-often-spec =
     tie.close
-    (tie.spec Inv-loop μ-loop (λ c. search needs) (λ c _. search needs) (λ c. search needs) (λ c. search needs) (λ c _. search needs)
-    (λ c. search needs) (λ c. search needs) (λ c. search needs) (λ c. search needs) (λ c. search needs) (λ c. search needs))
+    (tie.spec Inv-loop μ-loop (λ c. search needs) (λ c _. search needs) (λ c. search needs) (λ c. search needs) (λ c _. search needs) (λ c. search needs) (λ c. search needs)
+    (λ c. search needs) (λ c. search needs) (λ c. search needs) (λ c. search needs))

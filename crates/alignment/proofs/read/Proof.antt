@@ -27,5 +27,4 @@ returns-4 c =
 pub read-spec : {M : Type 1} → statement M
 read-spec =
     tie.close
-    (tie.spec (λ c _. search needs) returns (λ c _. search needs) (λ c. search needs) (λ c _. search needs) (λ c. search needs) (λ c _. search needs)
-    returns-2 returns-3 returns-4)
+    (tie.spec (λ c _. search needs) returns (λ c _. search needs) (λ c. search needs) (λ c _. search needs) (λ c. search needs) (λ c _. search needs) returns-2 returns-3 returns-4)

@@ -14,6 +14,4 @@ returns c =
     simp same (held-read (b .before .before .before .before .read-head .ensures) (b .before .before .before .read-elements .ensures) (start .ensures) (b .before .read-tangents .ensures) (b .read-crossfalls .ensures))
 
 pub read-fields-spec : {M : Type 1} → statement M
-read-fields-spec =
-    tie.close
-    (tie.spec (λ c _. search needs) (λ c _. search needs) (λ c _. search needs) (λ c _. search needs) (λ c _. search needs) returns)
+read-fields-spec = tie.close (tie.spec (λ c _. search needs) (λ c _. search needs) (λ c _. search needs) (λ c _. search needs) (λ c _. search needs) returns)

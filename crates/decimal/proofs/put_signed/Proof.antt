@@ -78,5 +78,5 @@ returns-2 c = let t = c .before .before .before .before in let f = t .before .be
 pub put-signed-spec : {M : Type 1} → statement M
 put-signed-spec =
     tie.close
-    (tie.spec slice-write-buf (λ c. search needs) sub-put-digits cast-put-digits add-put-digits-2 put-digits-requires same-length returns
-    cast-put-digits-2 put-digits-requires-2 (λ c. search needs) returns-2)
+    (tie.spec slice-write-buf (λ c. search needs) sub-put-digits cast-put-digits add-put-digits-2 put-digits-requires same-length returns cast-put-digits-2 put-digits-requires-2
+    (λ c. search needs) returns-2)

@@ -13,6 +13,4 @@ returns-4 : tie.Need-returns-4
 returns-4 c = sym (simp (c .before .before .before .before .before .if1 .left, c .before .before .before .enum-told .given .1, c .before .from2 .given .1))
 
 pub in-range-spec : {M : Type 1} → statement M
-in-range-spec =
-    tie.close
-    (tie.spec (λ c. search needs) (λ c. search needs) (λ c. search needs) (λ c. search needs) (λ c. search needs) returns-2 returns-3 returns-4)
+in-range-spec = tie.close (tie.spec (λ c. search needs) (λ c. search needs) (λ c. search needs) (λ c. search needs) (λ c. search needs) returns-2 returns-3 returns-4)

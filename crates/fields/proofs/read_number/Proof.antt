@@ -13,6 +13,4 @@ returns-3 : tie.Need-returns-3
 returns-3 c = record { same = sym (simp (c .before .before .before .before .before .from2 .given .1, sym (c .before .before .before .number-at .ensures), c .before .value .given .1)) }
 
 pub read-number-spec : {M : Type 1} → statement M
-read-number-spec =
-    tie.close
-    (tie.spec (λ c. search needs) (λ c. search needs) (λ c _. search needs) (λ c. search needs) (λ c. search needs) returns returns-2 returns-3)
+read-number-spec = tie.close (tie.spec (λ c. search needs) (λ c. search needs) (λ c _. search needs) (λ c. search needs) (λ c. search needs) returns returns-2 returns-3)

@@ -35,5 +35,5 @@ returns-6 c =
 pub element-fails-spec : {M : Type 1} → statement M
 element-fails-spec =
     tie.close
-    (tie.spec (λ c _. search needs) (λ c _. search needs) (λ c _. search needs) (λ c _. search needs) (λ c _. search needs) returns returns-2
-    returns-3 returns-4 returns-5 returns-6)
+    (tie.spec (λ c _. search needs) (λ c _. search needs) (λ c _. search needs) (λ c _. search needs) (λ c _. search needs) returns returns-2 returns-3 returns-4 returns-5
+    returns-6)

@@ -17,5 +17,4 @@ returns c =
 pub is-sharp-spec : {M : Type 1} → statement M
 is-sharp-spec =
     tie.close
-    (tie.spec (λ c _. search needs) (λ c _. search needs) (λ c. search needs) (λ c. search needs) (λ c. search needs) (λ c _. search needs)
-    (λ c _. search needs) returns)
+    (tie.spec (λ c _. search needs) (λ c _. search needs) (λ c. search needs) (λ c. search needs) (λ c. search needs) (λ c _. search needs) (λ c _. search needs) returns)

@@ -38,5 +38,4 @@ slice-aggregate-write-all c = sym (length-take-le _ _ (fits (c .before .before))
 pub show-spec : {M : Type 1} → statement M
 show-spec =
     tie.close
-    (tie.spec (λ c _. search needs) (λ c. search needs) put-field-requires array-share-prefix-line slice-aggregate-write-all (λ c _. search needs)
-    (λ c. search needs))
+    (tie.spec (λ c _. search needs) (λ c. search needs) put-field-requires array-share-prefix-line slice-aggregate-write-all (λ c _. search needs) (λ c. search needs))

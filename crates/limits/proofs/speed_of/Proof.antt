@@ -20,5 +20,5 @@ returns-3 c = past-classes (c .before .before .before .args .class - 1) (c .befo
 pub speed-of-spec : {M : Type 1} → statement M
 speed-of-spec =
     tie.close
-    (tie.spec (λ c _. search needs) (λ c. search needs) (λ c _. search needs) (λ c. search needs) (λ c. search needs) (λ c. search needs)
-    (λ c. search needs) (λ c. search needs) returns returns-2 returns-3)
+    (tie.spec (λ c _. search needs) (λ c. search needs) (λ c _. search needs) (λ c. search needs) (λ c. search needs) (λ c. search needs) (λ c. search needs) (λ c. search needs)
+    returns returns-2 returns-3)

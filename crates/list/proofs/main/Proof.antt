@@ -17,5 +17,5 @@ slice-aggregate-list c = sym (length-take-le _ _ (array-share-prefix-file (c .be
 pub main-spec : {M : Type 1} → statement M
 main-spec =
     tie.close
-    (tie.spec (λ c. search needs) (λ c _. search needs) (λ c. search needs) (λ c. search needs) (λ c _. search needs) (λ c. search needs)
-    array-share-prefix-file slice-aggregate-list (λ c _. search needs) (λ c. search needs) (λ c. search needs))
+    (tie.spec (λ c. search needs) (λ c _. search needs) (λ c. search needs) (λ c. search needs) (λ c _. search needs) (λ c. search needs) array-share-prefix-file
+    slice-aggregate-list (λ c _. search needs) (λ c. search needs) (λ c. search needs))

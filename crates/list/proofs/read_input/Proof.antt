@@ -25,6 +25,5 @@ loop-again c = let l = c .before .before .before .before .before .before .before
 pub read-input-spec : {M : Type 1} → statement M
 read-input-spec =
     tie.close
-    (tie.spec Inv-loop μ-loop (λ c. search needs) (λ c. search needs) (λ c. search needs) (λ c. search needs) (λ c _. search needs)
-    (λ c. search needs) (λ c. search needs) (λ c. search needs) (λ c. search needs) (λ c. search needs) (λ c. search needs) add-done
-    (λ c. search needs) loop-again (λ c. search needs) (λ c. search needs))
+    (tie.spec Inv-loop μ-loop (λ c. search needs) (λ c. search needs) (λ c. search needs) (λ c. search needs) (λ c _. search needs) (λ c. search needs) (λ c. search needs)
+    (λ c. search needs) (λ c. search needs) (λ c. search needs) (λ c. search needs) add-done (λ c. search needs) loop-again (λ c. search needs) (λ c. search needs))

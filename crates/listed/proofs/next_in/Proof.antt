@@ -32,5 +32,4 @@ returns c =
 pub next-in-spec : {M : Type 1} → statement M
 next-in-spec =
     tie.close
-    (tie.spec (λ c _. search needs) (λ c _. search needs) (λ c _. search needs) (λ c. search needs) (λ c _. search needs) (λ c _. search needs)
-    (λ c _. search needs) returns)
+    (tie.spec (λ c _. search needs) (λ c _. search needs) (λ c _. search needs) (λ c. search needs) (λ c _. search needs) (λ c _. search needs) (λ c _. search needs) returns)

@@ -48,5 +48,5 @@ returns c =
 pub with-points-spec : {M : Type 1} → statement M
 with-points-spec =
     tie.close
-    (tie.spec Inv-loop μ-loop loop-holds (λ c. search needs) (λ c. search needs) (λ c. search needs) (λ c _. search needs) (λ c. search needs)
-    (λ c. search needs) loop-again returns)
+    (tie.spec Inv-loop μ-loop loop-holds (λ c. search needs) (λ c. search needs) (λ c. search needs) (λ c _. search needs) (λ c. search needs) (λ c. search needs) loop-again
+    returns)

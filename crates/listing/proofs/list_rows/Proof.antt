@@ -26,6 +26,4 @@ returns-2 c =
     (c .before .before .put-rows .ensures .0 ∙ g .0, c .before .before .put-rows .ensures .1 ∙ g .1)
 
 pub list-rows-spec : {M : Type 1} → statement M
-list-rows-spec =
-    tie.close
-    (tie.spec (λ c _. search needs) (λ c. search needs) (λ c. search needs) put-rows-requires returns (λ c. search needs) returns-2)
+list-rows-spec = tie.close (tie.spec (λ c _. search needs) (λ c. search needs) (λ c. search needs) put-rows-requires returns (λ c. search needs) returns-2)

@@ -41,5 +41,4 @@ returns-3 c =
 pub put-rows-spec : {M : Type 1} → statement M
 put-rows-spec =
     tie.close
-    (tie.spec returns (λ c _. search needs) rows-from-requires (λ c. search needs) (λ c. search needs) (λ c. search needs) returns-2
-    (λ c. search needs) returns-3)
+    (tie.spec returns (λ c _. search needs) rows-from-requires (λ c. search needs) (λ c. search needs) (λ c. search needs) returns-2 (λ c. search needs) returns-3)

@@ -79,5 +79,5 @@ returns-4 c =
 pub bend-on-spec : {M : Type 1} → statement M
 bend-on-spec =
     tie.close
-    (tie.spec (λ c. search needs) (λ c. search needs) (λ c _. search needs) returns returns-2 sub-h (λ c. search needs) (λ c. search needs)
-    (λ c _. search needs) returns-3 (λ c. search needs) (λ c. search needs) (λ c. search needs) (λ c _. search needs) returns-4)
+    (tie.spec (λ c. search needs) (λ c. search needs) (λ c _. search needs) returns returns-2 sub-h (λ c. search needs) (λ c. search needs) (λ c _. search needs) returns-3
+    (λ c. search needs) (λ c. search needs) (λ c. search needs) (λ c _. search needs) returns-4)

@@ -25,6 +25,4 @@ returns c =
     rw (above (p .height) (t .grade) _ (t .length - t .half) (s .pre .height) (s .pre .grade) (omega (arith, s .pre .length)) (c .before .before .before .before .before .rise .ensures), toZ-ofZ f, toZ-ofZ g) at (c .curve-from .ensures)
 
 pub curve-after-spec : {M : Type 1} → statement M
-curve-after-spec =
-    tie.close
-    (tie.spec (λ c. search needs) (λ c _. search needs) (λ c. search needs) (λ c. search needs) add-curve-from-2 (λ c _. search needs) returns)
+curve-after-spec = tie.close (tie.spec (λ c. search needs) (λ c _. search needs) (λ c. search needs) (λ c. search needs) add-curve-from-2 (λ c _. search needs) returns)

@@ -12,6 +12,4 @@ returns c =
     rw (toZ-pos w64 {n = s .args .from} (omega (arith, s .pre)), toZ-ofZ (s .fits .height), widened (c .before .wide .ensures) (s .fits .first), changed (c .change .ensures) (s .fits .first) (s .fits .second), unsigned (s .fits .half .fits))
 
 pub curve-from-spec : {M : Type 1} → statement M
-curve-from-spec =
-    tie.close
-    (tie.spec (λ c _. search needs) (λ c _. search needs) (λ c. search needs) (λ c. search needs) (λ c. search needs) (λ c. search needs) returns)
+curve-from-spec = tie.close (tie.spec (λ c _. search needs) (λ c _. search needs) (λ c. search needs) (λ c. search needs) (λ c. search needs) (λ c. search needs) returns)

@@ -50,5 +50,5 @@ returns-2 c =
 pub element-on-spec : {M : Type 1} → statement M
 element-on-spec =
     tie.close
-    (tie.spec Inv-loop μ-loop (λ c. search needs) (λ c. search needs) (λ c. search needs) (λ c. search needs) (λ c. search needs) add-end
-    (λ c. search needs) (λ c. search needs) loop-again returns returns-2)
+    (tie.spec Inv-loop μ-loop (λ c. search needs) (λ c. search needs) (λ c. search needs) (λ c. search needs) (λ c. search needs) add-end (λ c. search needs) (λ c. search needs)
+    loop-again returns returns-2)

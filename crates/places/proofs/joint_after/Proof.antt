@@ -35,5 +35,5 @@ returns-2 c =
 pub joint-after-spec : {M : Type 1} → statement M
 joint-after-spec =
     tie.close
-    (tie.spec (λ c. search needs) (λ c. search needs) (λ c. search needs) (λ c. search needs) (λ c. search needs) returns (λ c. search needs)
-    (λ c. search needs) (λ c. search needs) (λ c. search needs) (λ c _. search needs) (λ c _. search needs) returns-2)
+    (tie.spec (λ c. search needs) (λ c. search needs) (λ c. search needs) (λ c. search needs) (λ c. search needs) returns (λ c. search needs) (λ c. search needs)
+    (λ c. search needs) (λ c. search needs) (λ c _. search needs) (λ c _. search needs) returns-2)

@@ -78,5 +78,5 @@ returns-3 c =
 pub piece-on-spec : {M : Type 1} → statement M
 piece-on-spec =
     tie.close
-    (tie.spec (λ c. search needs) (λ c. search needs) (λ c. search needs) add-if1 curve-before-requires returns sub-far (λ c. search needs) add-if2
-    straight-part-requires returns-2 (λ c. search needs) (λ c. search needs) array-copy-out-next curve-after-requires returns-3)
+    (tie.spec (λ c. search needs) (λ c. search needs) (λ c. search needs) add-if1 curve-before-requires returns sub-far (λ c. search needs) add-if2 straight-part-requires returns-2
+    (λ c. search needs) (λ c. search needs) array-copy-out-next curve-after-requires returns-3)

@@ -54,5 +54,5 @@ returns-2 c =
 pub point-on-spec : {M : Type 1} → statement M
 point-on-spec =
     tie.close
-    (tie.spec Inv-loop μ-loop (λ c. search needs) add-if1 (λ c. search needs) (λ c. search needs) (λ c. search needs) (λ c. search needs)
-    (λ c. search needs) loop-again returns returns-2)
+    (tie.spec Inv-loop μ-loop (λ c. search needs) add-if1 (λ c. search needs) (λ c. search needs) (λ c. search needs) (λ c. search needs) (λ c. search needs) loop-again returns
+    returns-2)

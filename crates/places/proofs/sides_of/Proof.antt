@@ -37,5 +37,4 @@ returns c =
 pub sides-of-spec : {M : Type 1} → statement M
 sides-of-spec =
     tie.close
-    (tie.spec (λ c _. search needs) (λ c _. search needs) (λ c _. search needs) (λ c _. search needs) (λ c. search needs) (λ c. search needs)
-    (λ c. search needs) sub-t10 returns)
+    (tie.spec (λ c _. search needs) (λ c _. search needs) (λ c _. search needs) (λ c _. search needs) (λ c. search needs) (λ c. search needs) (λ c. search needs) sub-t10 returns)

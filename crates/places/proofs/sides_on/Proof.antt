@@ -19,6 +19,4 @@ returns c =
     c .sides-of .ensures ∙ ap₂ sidesOf (point-item a k (omega arith)) (point-item a (k + 1) (omega arith) ∙ ap (pointOf (roadIn a)) (add-one k))
 
 pub sides-on-spec : {M : Type 1} → statement M
-sides-on-spec =
-    tie.close
-    (tie.spec (λ c. search needs) (λ c. search needs) (λ c. search needs) (λ c. search needs) (λ c. search needs) (λ c _. search needs) returns)
+sides-on-spec = tie.close (tie.spec (λ c. search needs) (λ c. search needs) (λ c. search needs) (λ c. search needs) (λ c. search needs) (λ c _. search needs) returns)

@@ -15,6 +15,4 @@ returns c =
     rw (toZ-pos w64 {n = p .begin} (omega (arith, s .pre .begin)), toZ-ofZ (fits64 (p .height) (omega (arith, s .pre .height))), widened (c .before .before .before .before .wide .ensures) (fits w32 (t .grade) (omega (arith, s .pre .grade))))
 
 pub straight-part-spec : {M : Type 1} → statement M
-straight-part-spec =
-    tie.close
-    (tie.spec (λ c _. search needs) (λ c. search needs) (λ c. search needs) (λ c. search needs) (λ c. search needs) returns)
+straight-part-spec = tie.close (tie.spec (λ c _. search needs) (λ c. search needs) (λ c. search needs) (λ c. search needs) (λ c. search needs) returns)

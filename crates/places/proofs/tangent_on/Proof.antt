@@ -60,5 +60,5 @@ returns-2 c =
 pub tangent-on-spec : {M : Type 1} → statement M
 tangent-on-spec =
     tie.close
-    (tie.spec Inv-loop μ-loop (λ c. search needs) (λ c. search needs) (λ c. search needs) (λ c. search needs) (λ c. search needs) add-if2
-    passed-requires loop-less loop-again returns returns-2)
+    (tie.spec Inv-loop μ-loop (λ c. search needs) (λ c. search needs) (λ c. search needs) (λ c. search needs) (λ c. search needs) add-if2 passed-requires loop-less loop-again
+    returns returns-2)

@@ -27,6 +27,4 @@ returns c =
     (c .before .joint-after .ensures) (c .stretch-of .ensures) (c .before .before .before .sides-on .ensures) (f .element .begin) (s .pre .1 .1 .1)
 
 pub view-at-spec : {M : Type 1} → statement M
-view-at-spec =
-    tie.close
-    (tie.spec (λ c _. search needs) (λ c _. search needs) (λ c _. search needs) (λ c _. search needs) joint-after-requires stretch-of-requires returns)
+view-at-spec = tie.close (tie.spec (λ c _. search needs) (λ c _. search needs) (λ c _. search needs) (λ c _. search needs) joint-after-requires stretch-of-requires returns)

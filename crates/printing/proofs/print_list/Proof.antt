@@ -67,7 +67,7 @@ loop-again c =
 pub print-list-spec : {M : Type 1} → statement M
 print-list-spec =
     tie.close
-    (tie.spec Inv-loop μ-loop (λ c _. search needs) (λ c. search needs) (λ c _. search needs) (λ c. search needs) (λ c. search needs) loop-holds
-    put-rows-requires (λ c. search needs) (λ c _. search needs) (λ c. search needs) (λ c. search needs) (λ c. search needs)
-    slice-reshare-prefix-write-all slice-aggregate-write-all (λ c _. search needs) (λ c. search needs) (λ c. search needs) (λ c. search needs)
-    slice-reshare-prefix-write-all-2 slice-aggregate-write-all-2 (λ c _. search needs) (λ c. search needs) (λ c. search needs) loop-less loop-again)
+    (tie.spec Inv-loop μ-loop (λ c _. search needs) (λ c. search needs) (λ c _. search needs) (λ c. search needs) (λ c. search needs) loop-holds put-rows-requires
+    (λ c. search needs) (λ c _. search needs) (λ c. search needs) (λ c. search needs) (λ c. search needs) slice-reshare-prefix-write-all slice-aggregate-write-all
+    (λ c _. search needs) (λ c. search needs) (λ c. search needs) (λ c. search needs) slice-reshare-prefix-write-all-2 slice-aggregate-write-all-2 (λ c _. search needs)
+    (λ c. search needs) (λ c. search needs) loop-less loop-again)

@@ -11,6 +11,4 @@ slice-aggregate-write-all : tie.Need-slice-aggregate-write-all
 slice-aggregate-write-all c = sym (length-take-le _ _ (array-share-prefix-line (c .before)))
 
 pub print-refusal-spec : {M : Type 1} → statement M
-print-refusal-spec =
-    tie.close
-    (tie.spec (λ c. search needs) (λ c _. search needs) array-share-prefix-line slice-aggregate-write-all (λ c _. search needs) (λ c. search needs))
+print-refusal-spec = tie.close (tie.spec (λ c. search needs) (λ c _. search needs) array-share-prefix-line slice-aggregate-write-all (λ c _. search needs) (λ c. search needs))

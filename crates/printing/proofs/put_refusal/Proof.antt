@@ -22,6 +22,4 @@ returns c =
     (rw (refusal-parts (s .args .number) (s .args .place)) at whole, omega (arith, p .ensures .1, n .ensures .1, m .ensures .end))
 
 pub put-refusal-spec : {M : Type 1} → statement M
-put-refusal-spec =
-    tie.close
-    (tie.spec (λ c _. search needs) (λ c _. search needs) (λ c _. search needs) (λ c _. search needs) (λ c. search needs) returns)
+put-refusal-spec = tie.close (tie.spec (λ c _. search needs) (λ c _. search needs) (λ c _. search needs) (λ c _. search needs) (λ c. search needs) returns)

@@ -1,5 +1,4 @@
 use mathlib.Core.Path.{_≡_, refl, sym, ap, _∙_}
-use mathlib.Core.Logic.{⊎-elim}
 use Prim.Native.Nat.{ℕ, suc, _+_, _-_, _<_, _≤_}
 use native.Mathlib.Omega.{arith}
 use native.Mathlib.Numerals.{add-one}
@@ -10,12 +9,10 @@ use Rattle.road.specs.Base.{sumOf}
 use Rattle.road.specs.Exact.{blankElement, blankCrossfall, pointOf, elementStart}
 use Rattle.road.specs.Rules.{wrongSuperelevation}
 use Rattle.road.specs.Held.{roadIn}
-use Rattle.road.specs.declared.Element.{Element}
+use Rattle.road.specs.Lists.{unmapped, item-or, element-item, point-item, plan-count, point-count, Sums, sums-start, element-sums}
 use Rattle.road.specs.declared.Crossfall.{Crossfall}
 use Rattle.limits.specs.Row.{asLimits}
 use Rattle.rules.proofs.Search.{Passed, start, found, on, nothing}
-use Rattle.rules.proofs.Lists.{item-in, item-past, count-take, unmapped, Sums, sums-start, sums-on}
-use Rattle.rules.proofs.Items.{element-step}
 use Rattle.rules.proofs.Arcs.{Merged, merged-start, next-pair, next-element, passed, fails, pairTest, arc-test, and-yes, and-no-then}
 use Rattle.rules.proofs.first_arc.Statement.{statement}
 use Rattle.rules.proofs.first_arc.Tie as tie
@@ -31,38 +28,29 @@ abbrev μ-loop : tie.MeasureT-loop
 abbrev lengthOf : tie.Start Inv-loop μ-loop → ℕ → ℕ
 lengthOf c i = getD (c .args .t1 .elements) i blankElement .length
 
-elements : (c : tie.Start Inv-loop μ-loop) → length (c .args .t1 .elements) ≡ 200
-elements c = search (needs, unmapped)
+elements : (c : tie.Start Inv-loop μ-loop) → length (roadIn (c .args .t1) .plan) ≡ c .args .t1 .«element_count»
+elements c = plan-count (c .args .t1) (c .pre .0) (search (needs, unmapped))
 
-points : (c : tie.Start Inv-loop μ-loop) → length (c .args .t1 .crossfalls) ≡ 200
-points c = search (needs, unmapped)
-
-element-count : (c : tie.Start Inv-loop μ-loop) → length (roadIn (c .args .t1) .plan) ≡ c .args .t1 .«element_count»
-element-count c = count-take (c .args .t1 .elements) (c .args .t1 .«element_count») (elements c) (c .pre .0 .plan)
-
-point-count : (c : tie.Start Inv-loop μ-loop) → length (roadIn (c .args .t1) .crossfalls) ≡ c .args .t1 .«crossfall_count»
-point-count c = count-take (c .args .t1 .crossfalls) (c .args .t1 .«crossfall_count») (points c) (c .pre .0 .points)
+points : (c : tie.Start Inv-loop μ-loop) → length (roadIn (c .args .t1) .crossfalls) ≡ c .args .t1 .«crossfall_count»
+points c = point-count (c .args .t1) (c .pre .0) (search (needs, unmapped))
 
 loop-holds : tie.Need-loop-holds Inv-loop μ-loop
 unfolding elementStart sumOf
 loop-holds c =
     let s = c .before .before in
     let a = s .args .t1 in
-    let p = ⊎-elim (λ w. w .2 ∙ item-in (a .crossfalls) (a .«crossfall_count») 0 blankCrossfall (w .0 .taken)) (λ w. w .1 ∙ item-past (a .crossfalls) (a .«crossfall_count») 0 blankCrossfall (w .0 .left)) (c .before .if1 .came) in
-    let q = ⊎-elim (λ w. w .2 ∙ item-in (a .crossfalls) (a .«crossfall_count») 1 blankCrossfall (w .0 .taken)) (λ w. w .1 ∙ item-past (a .crossfalls) (a .«crossfall_count») 1 blankCrossfall (w .0 .left)) (c .if2 .came) in
+    let p = item-or (a .crossfalls) (a .«crossfall_count») 0 blankCrossfall (c .before .if1 .came) (λ w. (w .0 .taken, w .2)) (λ w. (w .0 .left, w .1)) in
+    let q = item-or (a .crossfalls) (a .«crossfall_count») 1 blankCrossfall (c .if2 .came) (λ w. (w .0 .taken, w .2)) (λ w. (w .0 .left, w .1)) in
     let few = s .pre .0 .plan in
     (s .pre .0 .points, omega arith, p, q, sums-start (omega arith) refl, merged-start (asLimits (s .args .l)) (roadIn a) (s .pre .1), start)
 
 high : (c : tie.After-arc-fails Inv-loop μ-loop) → Sums (elementStart (roadIn (c .before .before .before .before .before .before .before .args .t1))) (c .before .before .before .before .before .before .before .args .t1 .«element_count») (c .before .before .before .before .loop .i + 1) (c .before .before .before .before .loop .low + lengthOf (c .before .before .before .before .before .before .before) (c .before .before .before .before .loop .i))
 high c =
     let v = c .before .before .before .before .loop in
-    let a = c .before .before .before .before .before .before .before .args .t1 in
-    let t = c .before .before .before .loop-test .taken in
-    let q = ap (λ (x : Element). elementStart (roadIn a) (v .i) + x .length) (item-in (a .elements) (a .«element_count») (v .i) blankElement t) in
-    sums-on _ (v .inv .4) t (omega arith) (element-step (roadIn a) (v .i) ∙ sym q)
+    element-sums (c .before .before .before .before .before .before .before .args .t1) (v .inv .4) (c .before .before .before .loop-test .taken) (omega arith)
 
 within : (c : tie.After-arc-fails Inv-loop μ-loop) → c .before .before .before .before .loop .i < length (roadIn (c .before .before .before .before .before .before .before .args .t1) .plan)
-within c = let m = element-count (c .before .before .before .before .before .before .before) in let t = c .before .before .before .loop-test .taken in omega arith
+within c = let m = elements (c .before .before .before .before .before .before .before) in let t = c .before .before .before .loop-test .taken in omega arith
 
 end-is : (c : tie.After-arc-fails Inv-loop μ-loop) → c .before .before .before .before .loop .low + lengthOf (c .before .before .before .before .before .before .before) (c .before .before .before .before .loop .i) ≡ elementStart (roadIn (c .before .before .before .before .before .before .before .args .t1)) (suc (c .before .before .before .before .loop .i))
 end-is c = high c .is ∙ ap (elementStart (roadIn (c .before .before .before .before .before .before .before .args .t1))) (add-one (c .before .before .before .before .loop .i))
@@ -72,7 +60,7 @@ test c =
     let v = c .before .before .before .before .loop in
     let s = c .before .before .before .before .before .before .before in
     let a = s .args .t1 in
-    c .arc-fails .ensures ∙ arc-test (asLimits (s .args .l)) (roadIn a) (v .i) (v .j) (item-in (a .elements) (a .«element_count») (v .i) blankElement (c .before .before .before .loop-test .taken)) (v .inv .4 .is) (end-is c) (v .inv .2) (v .inv .3)
+    c .arc-fails .ensures ∙ arc-test (asLimits (s .args .l)) (roadIn a) (v .i) (v .j) (element-item a (v .i) (c .before .before .before .loop-test .taken)) (v .inv .4 .is) (end-is c) (v .inv .2) (v .inv .3)
 
 returns : tie.Need-returns Inv-loop μ-loop
 returns c =
@@ -110,17 +98,17 @@ loop-again c =
     let s = c .before .before .before .before .before .before .before .before .before .before .before in
     let a = s .args .t1 in
     let h = more (c .before) in
-    let m = point-count s in
+    let m = points s in
     let two : v .j + 1 + 1 ≡ suc (v .j + 1) = omega arith in
     let next : suc (suc (v .j)) < length (roadIn a .crossfalls) = omega arith in
     let merged = next-pair (asLimits (s .args .l)) (roadIn a) (s .pre .1) (v .inv .5) (sym (test d) ∙ c .before .before .before .if3 .left) next (reaches d (h .1)) in
-    (v .inv .0, omega arith, v .inv .3 ∙ ap (λ (k : ℕ). pointOf (roadIn a) k) (sym (add-one (v .j))), item-in (a .crossfalls) (a .«crossfall_count») (v .j + 1 + 1) blankCrossfall (omega arith) ∙ ap (λ (k : ℕ). pointOf (roadIn a) k) two, v .inv .4, rw (add-one (v .j)) merged, v .inv .6)
+    (v .inv .0, omega arith, v .inv .3 ∙ ap (λ (k : ℕ). pointOf (roadIn a) k) (sym (add-one (v .j))), point-item a (v .j + 1 + 1) (omega arith) ∙ ap (λ (k : ℕ). pointOf (roadIn a) k) two, v .inv .4, rw (add-one (v .j)) merged, v .inv .6)
 
 -- else the next pair begins beyond the element's end
 beyond : (c : tie.Else4 Inv-loop μ-loop) → suc (suc (c .before .before .before .before .before .before .before .loop .j)) < length (roadIn (c .before .before .before .before .before .before .before .before .before .before .args .t1) .crossfalls) → elementStart (roadIn (c .before .before .before .before .before .before .before .before .before .before .args .t1)) (suc (c .before .before .before .before .before .before .before .loop .i)) < pointOf (roadIn (c .before .before .before .before .before .before .before .before .before .before .args .t1)) (suc (c .before .before .before .before .before .before .before .loop .j)) .station
 beyond c h =
     let v = c .before .before .before .before .before .before .before .loop in
-    let m = point-count (c .before .before .before .before .before .before .before .before .before .before) in
+    let m = points (c .before .before .before .before .before .before .before .before .before .before) in
     let e = end-is (c .before .before .before) in
     let q = ap (λ (x : Crossfall). x .station) (v .inv .3) in
     let u : v .j + 2 < c .before .before .before .before .before .before .before .before .before .before .args .t1 .«crossfall_count» = omega arith in
@@ -139,11 +127,11 @@ loop-again-2 c =
     (v .inv .0, v .inv .1, v .inv .2, v .inv .3, high d, rw (add-one (v .i)) (next-element (asLimits (s .args .l)) (roadIn a) (s .pre .1) (v .i) (v .j) (v .inv .5) e done), on (v .inv .6) (within d) (passed (asLimits (s .args .l)) (roadIn a) (s .pre .1) (v .i) (v .j) (v .inv .5) e done))
 
 returns-2 : tie.Need-returns-2 Inv-loop μ-loop
-returns-2 c = let m = element-count (c .before .before .before .before) in let h = c .loop-test .left in nothing (c .before .loop .inv .6) (omega arith)
+returns-2 c = let m = elements (c .before .before .before .before) in let h = c .loop-test .left in nothing (c .before .loop .inv .6) (omega arith)
 
 pub first-arc-spec : {M : Type 1} → statement M
 first-arc-spec =
     tie.close
-    (tie.spec Inv-loop μ-loop (λ c. search needs) (λ c. search needs) loop-holds (λ c. search needs) (λ c. search needs) (λ c. search needs)
-    (λ c. search needs) (λ c _. search needs) returns (λ c. search needs) (λ c. search needs) add-j add-q mul-q element-copy-out-q-2 loop-less
-    loop-again (λ c. search needs) (λ c. search needs) loop-again-2 returns-2)
+    (tie.spec Inv-loop μ-loop (λ c. search needs) (λ c. search needs) loop-holds (λ c. search needs) (λ c. search needs) (λ c. search needs) (λ c. search needs)
+    (λ c _. search needs) returns (λ c. search needs) (λ c. search needs) add-j add-q mul-q element-copy-out-q-2 loop-less loop-again (λ c. search needs) (λ c. search needs)
+    loop-again-2 returns-2)

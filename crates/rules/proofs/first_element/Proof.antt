@@ -3,17 +3,16 @@ use Prim.Native.Nat.{ℕ, suc, _+_, _-_, _≤_}
 use native.Mathlib.Omega.{arith}
 use native.Mathlib.Numerals.{add-one}
 use borrow.Author.Needs.{needs}
-use mathlib.Core.Logic.{⊎-elim}
 use lib.ListN.{length}
 use Rattle.road.specs.Base.{sumOf}
 use Rattle.road.specs.Exact.{blankElement, elementOf, elementStart}
 use Rattle.road.specs.Held.{roadIn}
+use Rattle.road.specs.Lists.{unmapped, item-or, next-or, plan-count, element-step, Sums, sums-start, sums-on}
 use Rattle.road.specs.declared.Element.{Element}
 use Rattle.limits.specs.Row.{asLimits}
 use Rattle.rules.specs.Judged.{elementBroken}
 use Rattle.rules.proofs.Search.{Passed, start, found, on, nothing}
-use Rattle.rules.proofs.Lists.{item-in, item-past, next-in, next-past, count-take, unmapped, Sums, sums-start, sums-on}
-use Rattle.rules.proofs.Items.{element-step, element-test}
+use Rattle.rules.proofs.Items.{element-test}
 use Rattle.rules.proofs.first_element.Statement.{statement}
 use Rattle.rules.proofs.first_element.Tie as tie
 
@@ -33,7 +32,7 @@ unfolding elementStart sumOf
 loop-holds c =
     let s = c .before in
     let a = s .args .t1 in
-    let first : c .if1 .e ≡ elementOf (roadIn a) 0 = ⊎-elim (λ w. w .2 ∙ item-in (a .elements) (a .«element_count») 0 blankElement (w .0 .taken)) (λ w. w .1 ∙ item-past (a .elements) (a .«element_count») 0 blankElement (w .0 .left)) (c .if1 .came) in
+    let first : c .if1 .e ≡ elementOf (roadIn a) 0 = item-or (a .elements) (a .«element_count») 0 blankElement (c .if1 .came) (λ w. (w .0 .taken, w .2)) (λ w. (w .0 .left, w .1)) in
     (s .pre .1, first, first, sums-start (omega arith) refl, start)
 
 -- what stands after the element, where it ends, and what its test says
@@ -41,21 +40,21 @@ next-is : (c : tie.After-element-fails Inv-loop μ-loop) → c .before .before .
 next-is c =
     let v = c .before .before .before .before .loop in
     let a = c .before .before .before .before .before .before .args .t1 in
-    ⊎-elim (λ w. w .2 ∙ next-in (a .elements) (a .«element_count») (v .i) blankElement (w .0 .taken)) (λ w. w .1 ∙ next-past (a .elements) (a .«element_count») (v .i) blankElement (w .0 .left)) (c .before .before .if2 .came)
+    next-or (a .elements) (a .«element_count») (v .i) blankElement (c .before .before .if2 .came) (λ w. (w .0 .taken, w .2)) (λ w. (w .0 .left, w .1))
 
 end-is : (c : tie.After-element-fails Inv-loop μ-loop) → Sums (elementStart (roadIn (c .before .before .before .before .before .before .args .t1))) 201 (c .before .before .before .before .loop .i + 1) (c .before .before .before .before .loop .end + c .before .before .before .before .loop .e .length)
 end-is c =
     let v = c .before .before .before .before .loop in
     let a = c .before .before .before .before .before .before .args .t1 in
     let t = c .before .before .before .loop-test .taken in
-    sums-on _ (v .inv .3) (omega arith) (omega arith) (element-step (roadIn a) (v .i) ∙ ap (λ (x : Element). elementStart (roadIn a) (v .i) + x .length) (sym (v .inv .2)))
+    sums-on (v .inv .3) (omega arith) (omega arith) (element-step (roadIn a) (v .i) ∙ ap (λ (x : Element). elementStart (roadIn a) (v .i) + x .length) (sym (v .inv .2)))
 
 test : (c : tie.After-element-fails Inv-loop μ-loop) → c .element-fails .result ≡ elementBroken (c .before .before .before .before .before .before .args .rule) (asLimits (c .before .before .before .before .before .before .args .l)) (roadIn (c .before .before .before .before .before .before .args .t1)) (c .before .before .before .before .loop .i)
 test c =
     let v = c .before .before .before .before .loop in
     let s = c .before .before .before .before .before .before in
     let a = s .args .t1 in
-    let m = count-take (a .elements) (a .«element_count») (long s) (s .pre .0 .plan) in
+    let m = plan-count a (s .pre .0) (long s) in
     c .element-fails .ensures ∙ element-test (s .args .rule) (s .args .l) (roadIn a) (v .i) (sym m) (end-is c .is ∙ ap (elementStart (roadIn a)) (add-one (v .i))) (v .inv .1) (v .inv .2) (next-is c)
 
 returns : tie.Need-returns Inv-loop μ-loop
@@ -75,5 +74,5 @@ returns-2 c = nothing (c .before .loop .inv .4) (c .loop-test .left)
 pub first-element-spec : {M : Type 1} → statement M
 first-element-spec =
     tie.close
-    (tie.spec Inv-loop μ-loop (λ c. search needs) loop-holds (λ c. search needs) (λ c. search needs) (λ c. search needs) (λ c. search needs)
-    (λ c. search needs) (λ c. search needs) (λ c _. search needs) returns (λ c. search needs) (λ c. search needs) loop-again returns-2)
+    (tie.spec Inv-loop μ-loop (λ c. search needs) loop-holds (λ c. search needs) (λ c. search needs) (λ c. search needs) (λ c. search needs) (λ c. search needs) (λ c. search needs)
+    (λ c _. search needs) returns (λ c. search needs) (λ c. search needs) loop-again returns-2)

@@ -4,7 +4,7 @@ use Rattle.road.specs.Base.{firstThat}
 use Rattle.road.specs.Held.{roadIn}
 use Rattle.limits.specs.Row.{asLimits}
 use Rattle.rules.specs.Judged.{tangentBroken, pointBroken}
-use Rattle.rules.proofs.Lists.{count-take, unmapped}
+use Rattle.road.specs.Lists.{unmapped, tangent-count, point-count}
 use Rattle.rules.proofs.Dispatch.{later-tangent, later-vertex, later-point, later-pair}
 use borrow.Author.Needs.{needs}
 use Rattle.rules.proofs.first_later.Statement.{statement}
@@ -12,10 +12,10 @@ use Rattle.rules.proofs.first_later.Tie as tie
 
 -- the lists are as long as their counts
 tangents : (c : tie.Start) → length (roadIn (c .args .a) .tangents) ≡ c .args .a .«tangent_count»
-tangents c = count-take (c .args .a .tangents) (c .args .a .«tangent_count») {m = 100} (search (needs, unmapped)) (c .pre .profile)
+tangents c = tangent-count (c .args .a) (c .pre) (search (needs, unmapped))
 
 points : (c : tie.Start) → length (roadIn (c .args .a) .crossfalls) ≡ c .args .a .«crossfall_count»
-points c = count-take (c .args .a .crossfalls) (c .args .a .«crossfall_count») {m = 200} (search (needs, unmapped)) (c .pre .points)
+points c = point-count (c .args .a) (c .pre) (search (needs, unmapped))
 
 returns : tie.Need-returns
 returns c = let s = c .before .before in c .first-tangent .ensures ∙ later-tangent (s .args .rule) (asLimits (s .args .l)) (roadIn (s .args .a)) _ (c .before .if1 .taken) (sym (tangents s))
@@ -32,5 +32,5 @@ returns-4 c = let s = c .before .before .before .before .before .before in c .fi
 pub first-later-spec : {M : Type 1} → statement M
 first-later-spec =
     tie.close
-    (tie.spec (λ c _. search needs) (λ c _. search needs) (λ c _. search needs) (λ c _. search needs) (λ c _. search needs) (λ c _. search needs)
-    (λ c _. search needs) (λ c _. search needs) returns returns-2 returns-3 returns-4)
+    (tie.spec (λ c _. search needs) (λ c _. search needs) (λ c _. search needs) (λ c _. search needs) (λ c _. search needs) (λ c _. search needs) (λ c _. search needs)
+    (λ c _. search needs) returns returns-2 returns-3 returns-4)

@@ -2,14 +2,14 @@ use mathlib.Core.Path.{_≡_, sym, _∙_}
 use lib.ListN.{length}
 use Rattle.road.specs.Held.{roadIn}
 use Rattle.limits.specs.Row.{asLimits}
-use Rattle.rules.proofs.Lists.{count-take, unmapped}
+use Rattle.road.specs.Lists.{unmapped, plan-count}
 use Rattle.rules.proofs.Dispatch.{of-6, of-7, of-9, of-19, of-low, of-later, kinds-run, points-ascend}
 use borrow.Author.Needs.{needs}
 use Rattle.rules.proofs.first_of.Statement.{statement}
 use Rattle.rules.proofs.first_of.Tie as tie
 
 elements : (c : tie.Start) → length (roadIn (c .args .a) .plan) ≡ c .args .a .«element_count»
-elements c = count-take (c .args .a .elements) (c .args .a .«element_count») {m = 200} (search (needs, unmapped)) (c .pre .0 .plan)
+elements c = plan-count (c .args .a) (c .pre .0) (search (needs, unmapped))
 
 first-straight-requires : tie.Need-first-straight-requires
 first-straight-requires c κs = let s = c .before .before .before in (s .pre .0, kinds-run (asLimits (s .args .l)) (roadIn (s .args .a)) (s .args .rule) (c .if3 .taken) (s .pre .1))
@@ -38,5 +38,5 @@ returns-6 c = let s = c .before .before .before .before .before .before in c .fi
 pub first-of-spec : {M : Type 1} → statement M
 first-of-spec =
     tie.close
-    (tie.spec (λ c _. search needs) (λ c. search needs) (λ c _. search needs) first-straight-requires first-arc-requires (λ c _. search needs)
-    (λ c _. search needs) returns returns-2 returns-3 returns-4 returns-5 returns-6)
+    (tie.spec (λ c _. search needs) (λ c. search needs) (λ c _. search needs) first-straight-requires first-arc-requires (λ c _. search needs) (λ c _. search needs) returns
+    returns-2 returns-3 returns-4 returns-5 returns-6)

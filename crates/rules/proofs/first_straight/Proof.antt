@@ -9,10 +9,10 @@ use lib.ListN.{length, getD}
 use Rattle.road.specs.Exact.{blankElement, elementOf}
 use Rattle.road.specs.Rules.{firstArc, arcBefore, shortStraight}
 use Rattle.road.specs.Held.{roadIn}
+use Rattle.road.specs.Lists.{unmapped, item-or, element-item, plan-count}
 use Rattle.road.specs.declared.Element.{Element}
 use Rattle.limits.specs.Row.{asLimits}
 use Rattle.rules.proofs.Search.{Passed, start, found, on, nothing}
-use Rattle.rules.proofs.Lists.{item-in, item-past, count-take, unmapped}
 use Rattle.rules.proofs.Straights.{turned, not-turned, straight-test}
 use Rattle.rules.proofs.first_straight.Statement.{statement}
 use Rattle.rules.proofs.first_straight.Tie as tie
@@ -24,11 +24,8 @@ Inv-loop l a n blank before₀ i₀ before i =
 abbrev μ-loop : tie.MeasureT-loop
 μ-loop l a n blank before₀ i₀ before i = n - i
 
-long : (c : tie.Start Inv-loop μ-loop) → length (c .args .t1 .elements) ≡ 200
-long c = search (needs, unmapped)
-
 count : (c : tie.Start Inv-loop μ-loop) → length (roadIn (c .args .t1) .plan) ≡ c .args .t1 .«element_count»
-count c = count-take (c .args .t1 .elements) (c .args .t1 .«element_count») (long c) (c .pre .0 .plan)
+count c = plan-count (c .args .t1) (c .pre .0) (search (needs, unmapped))
 
 loop-holds : tie.Need-loop-holds Inv-loop μ-loop
 unfolding firstArc
@@ -38,7 +35,7 @@ within : (c : tie.After-is-short-straight Inv-loop μ-loop) → c .before .befor
 within c = let m = count (c .before .before .before .before .before) in let t = c .before .before .before .loop-test .taken in omega arith
 
 here : (c : tie.After-is-short-straight Inv-loop μ-loop) → getD (c .before .before .before .before .before .args .t1 .elements) (c .before .before .before .before .loop .i) blankElement ≡ elementOf (roadIn (c .before .before .before .before .before .args .t1)) (c .before .before .before .before .loop .i)
-here c = let a = c .before .before .before .before .before .args .t1 in item-in (a .elements) (a .«element_count») (c .before .before .before .before .loop .i) blankElement (c .before .before .before .loop-test .taken)
+here c = element-item (c .before .before .before .before .before .args .t1) (c .before .before .before .before .loop .i) (c .before .before .before .loop-test .taken)
 
 test : (c : tie.After-is-short-straight Inv-loop μ-loop) → c .is-short-straight .result ≡ shortStraight (asLimits (c .before .before .before .before .before .args .l)) (roadIn (c .before .before .before .before .before .args .t1)) (c .before .before .before .before .loop .i)
 test c =
@@ -46,7 +43,7 @@ test c =
     let s = c .before .before .before .before .before in
     let a = s .args .t1 in
     let two : v .i + 2 ≡ suc (suc (v .i)) = omega arith in
-    let after = ⊎-elim (λ w. w .2 ∙ item-in (a .elements) (a .«element_count») (v .i + 2) blankElement (w .0 .taken)) (λ w. w .1 ∙ item-past (a .elements) (a .«element_count») (v .i + 2) blankElement (w .0 .left)) (c .before .if1 .came) in
+    let after = item-or (a .elements) (a .«element_count») (v .i + 2) blankElement (c .before .if1 .came) (λ w. (w .0 .taken, w .2)) (λ w. (w .0 .left, w .1)) in
     c .is-short-straight .ensures ∙ straight-test (asLimits (s .args .l)) (roadIn a) (s .pre .1) (v .i) (v .before) (within c) (v .inv .1) (here c) (after ∙ ap (λ (k : ℕ). elementOf (roadIn a) k) two)
 
 returns : tie.Need-returns Inv-loop μ-loop
@@ -67,5 +64,5 @@ returns-2 c = let m = count (c .before .before) in let h = c .loop-test .left in
 pub first-straight-spec : {M : Type 1} → statement M
 first-straight-spec =
     tie.close
-    (tie.spec Inv-loop μ-loop loop-holds (λ c. search needs) (λ c. search needs) (λ c. search needs) (λ c. search needs) (λ c. search needs)
-    (λ c. search needs) (λ c _. search needs) returns (λ c. search needs) (λ c. search needs) loop-again returns-2)
+    (tie.spec Inv-loop μ-loop loop-holds (λ c. search needs) (λ c. search needs) (λ c. search needs) (λ c. search needs) (λ c. search needs) (λ c. search needs)
+    (λ c _. search needs) returns (λ c. search needs) (λ c. search needs) loop-again returns-2)

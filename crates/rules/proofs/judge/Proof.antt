@@ -43,5 +43,4 @@ returns-2 c = let v = c .before .loop in let s = c .before .before in judge-end 
 pub judge-spec : {M : Type 1} → statement M
 judge-spec =
     tie.close
-    (tie.spec Inv-loop μ-loop loop-holds first-of-requires (λ c. search needs) returns (λ c. search needs) (λ c. search needs) (λ c. search needs)
-    loop-again returns-2)
+    (tie.spec Inv-loop μ-loop loop-holds first-of-requires (λ c. search needs) returns (λ c. search needs) (λ c. search needs) (λ c. search needs) loop-again returns-2)

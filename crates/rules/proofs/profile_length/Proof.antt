@@ -1,14 +1,11 @@
-use mathlib.Core.Path.{_≡_, refl, sym, ap, _∙_}
-use Prim.Native.Nat.{ℕ, _+_, _-_}
+use mathlib.Core.Path.{refl}
+use Prim.Native.Nat.{_-_}
 use native.Mathlib.Omega.{arith}
 use borrow.Author.Needs.{needs}
-use lib.ListN.{length}
 use Rattle.road.specs.Base.{sumOf}
-use Rattle.road.specs.Exact.{blankTangent, tangentStart}
+use Rattle.road.specs.Exact.{tangentStart}
 use Rattle.road.specs.Held.{roadIn}
-use Rattle.road.specs.declared.Tangent.{Tangent}
-use Rattle.rules.proofs.Lists.{item-in, count-take, unmapped, Sums, sums-start, sums-on}
-use Rattle.rules.proofs.Items.{tangent-step}
+use Rattle.road.specs.Lists.{unmapped, tangent-count, Sums, sums-start, sums-end, tangent-sums}
 use Rattle.rules.proofs.profile_length.Statement.{statement}
 use Rattle.rules.proofs.profile_length.Tie as tie
 
@@ -18,34 +15,17 @@ Inv-loop a n sum₀ i₀ sum i = Sums (tangentStart (roadIn a)) n i sum
 abbrev μ-loop : tie.MeasureT-loop
 μ-loop a n sum₀ i₀ sum i = n - i
 
-long : (c : tie.Start Inv-loop μ-loop) → length (c .args .t1 .tangents) ≡ 100
-long c = search (needs, unmapped)
-
 loop-holds : tie.Need-loop-holds Inv-loop μ-loop
 unfolding tangentStart sumOf
 loop-holds c = let h = c .pre .profile in sums-start (omega arith) refl
 
 loop-again : tie.Need-loop-again Inv-loop μ-loop
-loop-again c =
-    let v = c .before .before .before .loop in
-    let a = c .before .before .before .before .args .t1 in
-    let t = c .before .before .loop-test .taken in
-    let q = ap (λ (x : Tangent). x .length) (item-in (a .tangents) (a .«tangent_count») (v .i) blankTangent t) in
-    sums-on _ (v .inv) t (omega arith) (tangent-step (roadIn a) (v .i) ∙ ap (λ (n : ℕ). tangentStart (roadIn a) (v .i) + n) (sym q))
+loop-again c = tangent-sums (c .before .before .before .before .args .t1) (c .before .before .before .loop .inv) (c .before .before .loop-test .taken) (omega arith)
 
 returns : tie.Need-returns Inv-loop μ-loop
-returns c =
-    let v = c .before .loop in
-    let s = c .before .before in
-    let a = s .args .t1 in
-    let h = c .loop-test .left in
-    let k = v .inv .within in
-    let m = count-take (a .tangents) (a .«tangent_count») (long s) (s .pre .profile) in
-    let e : v .i ≡ length (roadIn a .tangents) = omega arith in
-    v .inv .is ∙ ap (tangentStart (roadIn a)) e
+returns c = let s = c .before .before in sums-end (c .before .loop .inv) (tangent-count (s .args .t1) (s .pre) (search (needs, unmapped))) (c .loop-test .left)
 
 pub profile-length-spec : {M : Type 1} → statement M
 profile-length-spec =
     tie.close
-    (tie.spec Inv-loop μ-loop loop-holds (λ c. search needs) (λ c. search needs) (λ c. search needs) (λ c. search needs) (λ c. search needs)
-    (λ c. search needs) loop-again returns)
+    (tie.spec Inv-loop μ-loop loop-holds (λ c. search needs) (λ c. search needs) (λ c. search needs) (λ c. search needs) (λ c. search needs) (λ c. search needs) loop-again returns)

@@ -14,7 +14,6 @@ copy-requires c κs = le-of-eq (slice-aggregate-line (c .before))
 pub one-run-spec : {M : Type 1} → statement M
 one-run-spec =
     tie.close
-    (tie.spec (λ c _. search needs) (λ c. search needs) (λ c _. search needs) (λ c. search needs) (λ c. search needs) (λ c. search needs)
-    (λ c _. search needs) (λ c. search needs) (λ c _. search needs) (λ c. search needs) (λ c. search needs) (λ c. search needs) (λ c. search needs)
-    (λ c. search needs) slice-aggregate-line copy-requires (λ c. search needs) (λ c _. search needs) (λ c _. search needs) (λ c _. search needs)
-    (λ c _. search needs) (λ c. search needs))
+    (tie.spec (λ c _. search needs) (λ c. search needs) (λ c _. search needs) (λ c. search needs) (λ c. search needs) (λ c. search needs) (λ c _. search needs) (λ c. search needs)
+    (λ c _. search needs) (λ c. search needs) (λ c. search needs) (λ c. search needs) (λ c. search needs) (λ c. search needs) slice-aggregate-line copy-requires (λ c. search needs)
+    (λ c _. search needs) (λ c _. search needs) (λ c _. search needs) (λ c _. search needs) (λ c. search needs))

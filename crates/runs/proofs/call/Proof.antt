@@ -20,6 +20,4 @@ returns-2 c =
     (c .next-numbers .ensures ∙ ap numbersOf (c .before .next-station .ensures), refl)
 
 pub call-spec : {M : Type 1} → statement M
-call-spec =
-    tie.close
-    (tie.spec (λ c _. search needs) (λ c _. search needs) (λ c _. search needs) (λ c _. search needs) (λ c. search needs) returns returns-2)
+call-spec = tie.close (tie.spec (λ c _. search needs) (λ c _. search needs) (λ c _. search needs) (λ c _. search needs) (λ c. search needs) returns returns-2)

@@ -58,5 +58,5 @@ returns c =
 pub run-sized-spec : {M : Type 1} → statement M
 run-sized-spec =
     tie.close
-    (tie.spec Inv-loop μ-loop loop-holds (λ c. search needs) (λ c. search needs) (λ c. search needs) record-call-requires add-at (λ c. search needs)
-    (λ c. search needs) loop-again same-length same-length-2 same-length-3 same-length-4 same-length-5 returns)
+    (tie.spec Inv-loop μ-loop loop-holds (λ c. search needs) (λ c. search needs) (λ c. search needs) record-call-requires add-at (λ c. search needs) (λ c. search needs) loop-again
+    same-length same-length-2 same-length-3 same-length-4 same-length-5 returns)

@@ -41,6 +41,4 @@ returns c =
     (w .0 ∙ ap length e, w .1 ∙ ap (λ (l : List ℕ). overwrite l (now (s .args .line))) e)
 
 pub put-row-spec : {M : Type 1} → statement M
-put-row-spec =
-    tie.close
-    (tie.spec (λ c _. search needs) (λ c _. search needs) view-at-requires (λ c _. search needs) put-line-requires (λ c. search needs) returns)
+put-row-spec = tie.close (tie.spec (λ c _. search needs) (λ c _. search needs) view-at-requires (λ c _. search needs) put-line-requires (λ c. search needs) returns)

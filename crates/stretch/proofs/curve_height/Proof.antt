@@ -93,5 +93,5 @@ returns c = let d = c .before in let b = d .before in let s = s2 b in
 pub curve-height-spec : {M : Type 1} → statement M
 curve-height-spec =
     tie.close
-    (tie.spec mul-bend mul-bend-2 mul-scale div-floor-requires add-raised (λ c _. search needs) mul-rest rem-floor-requires-2 add-rest
-    (λ c _. search needs) mul-round-parts round-parts-requires returns)
+    (tie.spec mul-bend mul-bend-2 mul-scale div-floor-requires add-raised (λ c _. search needs) mul-rest rem-floor-requires-2 add-rest (λ c _. search needs) mul-round-parts
+    round-parts-requires returns)

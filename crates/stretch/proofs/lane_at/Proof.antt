@@ -49,6 +49,4 @@ returns-2 c = let b = c .before .before in let s = s b in
     (simp (toZ-ofZ, over-fits b, s .fits .span, s .fits .width) at (c .drop-of .ensures)))
 
 pub lane-at-spec : {M : Type 1} → statement M
-lane-at-spec =
-    tie.close
-    (tie.spec mul-round-div (λ c _. search needs) returns mul-along along-requires round-div-requires-2 drop-of-requires returns-2)
+lane-at-spec = tie.close (tie.spec mul-round-div (λ c _. search needs) returns mul-along along-requires round-div-requires-2 drop-of-requires returns-2)

@@ -107,5 +107,5 @@ returns-2 c =
 pub rows-on-spec : {M : Type 1} → statement M
 rows-on-spec =
     tie.close
-    (tie.spec Inv-loop μ-loop (λ c _. search needs) (λ c. search needs) (λ c _. search needs) (λ c _. search needs) loop-holds sub-if1 same-length
-    returns view-at-requires put-stretch-requires loop-less loop-again same-length-2 returns-2)
+    (tie.spec Inv-loop μ-loop (λ c _. search needs) (λ c. search needs) (λ c _. search needs) (λ c _. search needs) loop-holds sub-if1 same-length returns view-at-requires
+    put-stretch-requires loop-less loop-again same-length-2 returns-2)
