@@ -1,5 +1,5 @@
 -- A loop that counts the stations of one item after another: what is left to count, of any list of items.
-use mathlib.Core.Path.{_≡_, refl, sym, ap, _∙_}
+use mathlib.Core.Path.{_≡_, refl, sym, ap, ap₂, _∙_}
 use mathlib.Core.Bool.{Bool, true, false}
 use mathlib.Core.List.{List, [], _∷_, _++_, map}
 use mathlib.Core.Option.{Option, none, some}
@@ -45,9 +45,9 @@ module _ (s : ℕ) (stations : ℕ → List ℕ) (n : ℕ) where
   pub counting-starts : (start : Option ℕ) → Counting s stations n 0 start start
   counting-starts start = record { within = omega arith; left = rw (sub-zero n) }
 
-  pub counting-turn : {i : ℕ} {start now : Option ℕ} → Counting s stations n i start now → i < n → Counting s stations n (i + 1) start (leastWith s (stations i) now)
+  pub counting-turn : {i : ℕ} {start now next : Option ℕ} → Counting s stations n i start now → i < n → next ≡ leastWith s (stations i) now → Counting s stations n (i + 1) start next
   unfolding joined countFrom
-  counting-turn {i} {start} {now} c h =
+  counting-turn {i} {start} {now} {next} c h q =
       let e : n - i ≡ suc (n - (i + 1)) = omega arith in
       record {
         within = omega arith;
@@ -56,14 +56,14 @@ module _ (s : ℕ) (stations : ℕ → List ℕ) (n : ℕ) where
             ∙ ap (λ (k : ℕ). leastWith s (joined stations (countFrom i k)) now) e
             ∙ least-append s (stations i) (joined stations (countFrom (suc i) (n - (i + 1)))) now
             ∙ least-swap s (stations i) (joined stations (countFrom (suc i) (n - (i + 1)))) now
-            ∙ ap (λ (k : ℕ). leastWith s (joined stations (countFrom k (n - (i + 1)))) (leastWith s (stations i) now)) (sym (add-one i));
+            ∙ ap₂ (λ (k : ℕ) (o : Option ℕ). leastWith s (joined stations (countFrom k (n - (i + 1)))) o) (sym (add-one i)) (sym q);
       }
 
-  pub counting-ends : {i : ℕ} {start now : Option ℕ} → Counting s stations n i start now → n ≤ i → now ≡ leastWith s (joined stations (countFrom 0 n)) start
+  pub counting-ends : {i m : ℕ} {start now : Option ℕ} → Counting s stations n i start now → n ≤ i → m ≡ n → now ≡ leastWith s (joined stations (countFrom 0 m)) start
   unfolding joined countFrom leastWith
-  counting-ends {i} {start} {now} c h =
+  counting-ends {i} {m} {start} {now} c h q =
       let e : n - i ≡ 0 = omega arith in
-      sym (c .left ∙ ap (λ (k : ℕ). leastWith s (joined stations (countFrom i k)) now) e)
+      sym (ap (λ (k : ℕ). leastWith s (joined stations (countFrom 0 k)) start) q ∙ c .left ∙ ap (λ (k : ℕ). leastWith s (joined stations (countFrom i k)) now) e)
 
 -- ---- lists that have one station for each item
 
