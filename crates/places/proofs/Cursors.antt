@@ -1,4 +1,4 @@
--- The items of an alignment's arrays, and how a cursor moves on.
+-- How a cursor moves on along a list.
 use mathlib.Core.Path.{_≡_, refl, sym, ap, ap₂, _∙_, subst}
 use mathlib.Core.List.{List, map}
 use Prim.Native.Nat.{ℕ, zero, suc, _+_, _*_, _<_, _≤_}
@@ -23,49 +23,6 @@ use Rattle.theorems.specs.Guaranteed.{Guaranteed}
 use Rattle.places.specs.declared.ElementPlace.{ElementPlace}
 use Rattle.places.specs.declared.TangentPlace.{TangentPlace}
 use Rattle.places.specs.Places.{Ready, Reached, heightStart, gradeBefore, ElementReached, ElementFound, TangentPlaced, TangentReached, nextPlace, Sized}
-
--- the length of a struct's array, which is known of its machine words
-pub unmapped : (X Y : Type 0) (f : X → Y) (l : List X) (n : ℕ) → length (map f l) ≡ n → length l ≡ n
-unmapped X Y f l n e = sym (length-map l f) ∙ e
-
-module _ {A : Type 0} where
-  item : (l : List A) (n i : ℕ) (d : A) → i < n → getD l i d ≡ getD (take n l) i d
-  item l n i d h = sym (getD-take n l i d h)
-
-  counted : (l : List A) (n : ℕ) → n ≤ length l → length (take n l) ≡ n
-  counted l n h = simp length-take (omega arith)
-
-module _ (a : Alignment) (ok : Ready a) where
-  pub plan-count : length (a .elements) ≡ 200 → length (roadIn a .plan) ≡ a .«element_count»
-  plan-count e = counted (a .elements) (a .«element_count») (omega (arith, ok .counted .plan))
-
-  pub tangent-count : length (a .tangents) ≡ 100 → length (roadIn a .tangents) ≡ a .«tangent_count»
-  tangent-count e = counted (a .tangents) (a .«tangent_count») (omega (arith, ok .counted .profile))
-
-  pub point-count : length (a .crossfalls) ≡ 200 → length (roadIn a .crossfalls) ≡ a .«crossfall_count»
-  point-count e = counted (a .crossfalls) (a .«crossfall_count») (omega (arith, ok .counted .points))
-
--- an item of the list is one of the array
-fewer : {A : Type 0} (l : List A) (n i : ℕ) → i < length (take n l) → i < n
-fewer l n i h = omega (arith, length-take n l)
-
-pub element-within : (a : Alignment) (i : ℕ) → i < length (roadIn a .plan) → i < a .«element_count»
-element-within a i h = fewer (a .elements) (a .«element_count») i h
-
-pub tangent-within : (a : Alignment) (i : ℕ) → i < length (roadIn a .tangents) → i < a .«tangent_count»
-tangent-within a i h = fewer (a .tangents) (a .«tangent_count») i h
-
-pub point-within : (a : Alignment) (i : ℕ) → i < length (roadIn a .crossfalls) → i < a .«crossfall_count»
-point-within a i h = fewer (a .crossfalls) (a .«crossfall_count») i h
-
-pub element-item : (a : Alignment) (i : ℕ) → i < a .«element_count» → getD (a .elements) i blankElement ≡ elementOf (roadIn a) i
-element-item a i h = item (a .elements) (a .«element_count») i blankElement h
-
-pub tangent-item : (a : Alignment) (i : ℕ) → i < a .«tangent_count» → getD (a .tangents) i blankTangent ≡ tangentOf (roadIn a) i
-tangent-item a i h = item (a .tangents) (a .«tangent_count») i blankTangent h
-
-pub point-item : (a : Alignment) (i : ℕ) → i < a .«crossfall_count» → getD (a .crossfalls) i blankCrossfall ≡ pointOf (roadIn a) i
-point-item a i h = item (a .crossfalls) (a .«crossfall_count») i blankCrossfall h
 
 -- ---- one cursor: where the next item does not begin at or before x, the last one is found
 pub reached-ends : {f : ℕ → ℕ} {n x i : ℕ} → Reached f n x i → (suc i < n → x < f (suc i)) → Begun f n x i

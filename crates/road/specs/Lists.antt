@@ -22,17 +22,17 @@ pub unmapped : (X Y : Type 0) (f : X → Y) (l : List X) (n : ℕ) → length (m
 unmapped X Y f l n e = sym (length-map l f) ∙ e
 
 module _ {A : Type 0} (l : List A) (n : ℕ) where
-  pub count-take : {m : ℕ} → length l ≡ m → n ≤ m → length (take n l) ≡ n
+  count-take : {m : ℕ} → length l ≡ m → n ≤ m → length (take n l) ≡ n
   count-take e h = simp length-take (omega arith)
 
-  pub take-within : (i : ℕ) → i < length (take n l) → i < n
+  take-within : (i : ℕ) → i < length (take n l) → i < n
   take-within i h = omega (arith, length-take n l)
 
   module _ (i : ℕ) (d : A) where
-    pub item-in : i < n → getD l i d ≡ getD (take n l) i d
+    item-in : i < n → getD l i d ≡ getD (take n l) i d
     item-in h = sym (getD-take n l i d h)
 
-    pub item-past : n ≤ i → d ≡ getD (take n l) i d
+    item-past : n ≤ i → d ≡ getD (take n l) i d
     item-past h = sym (List·getD-eq-default (take n l) d (simp length-take (omega arith)))
 
     -- what a branch holds: the item, or past the list the blank one
@@ -53,6 +53,17 @@ module _ (a : Alignment) (i : ℕ) where
 
   pub point-item : i < a .«crossfall_count» → getD (a .crossfalls) i blankCrossfall ≡ pointOf (roadIn a) i
   point-item h = item-in (a .crossfalls) (a .«crossfall_count») i blankCrossfall h
+
+-- an item of the list is one of the array
+module _ (a : Alignment) (i : ℕ) where
+  pub element-within : i < length (roadIn a .plan) → i < a .«element_count»
+  element-within h = take-within (a .elements) (a .«element_count») i h
+
+  pub tangent-within : i < length (roadIn a .tangents) → i < a .«tangent_count»
+  tangent-within h = take-within (a .tangents) (a .«tangent_count») i h
+
+  pub point-within : i < length (roadIn a .crossfalls) → i < a .«crossfall_count»
+  point-within h = take-within (a .crossfalls) (a .«crossfall_count») i h
 
 module _ (a : Alignment) (k : Counted a) where
   pub plan-count : length (a .elements) ≡ 200 → length (roadIn a .plan) ≡ a .«element_count»

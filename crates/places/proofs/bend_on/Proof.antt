@@ -8,9 +8,9 @@ use mir.Val.{SFits}
 use mir.Facts.{toZ-ofZ}
 use Rattle.road.specs.Exact.{blankElement, elementOf}
 use Rattle.road.specs.Held.{roadIn}
+use Rattle.road.specs.Lists.{element-within, element-item}
 use Rattle.road.specs.declared.Element.{Element}
 use Rattle.places.specs.Bends.{arcBend, inBend, outBend, Curved}
-use Rattle.places.proofs.Cursors.{element-within, element-item}
 use Rattle.places.proofs.Curvatures.{clothoid-inside, straight-curved, arc-curved, after-arc, before-arc, other-kind}
 use borrow.Author.Needs.{needs}
 use Rattle.places.proofs.bend_on.Statement.{statement}

@@ -4,8 +4,9 @@ use native.Mathlib.Omega.{arith}
 use borrow.Author.Needs.{needs}
 use lib.ListN.{length}
 use Rattle.road.specs.Held.{roadIn}
+use Rattle.road.specs.Lists.{unmapped, plan-count, element-item}
 use Rattle.places.specs.Places.{ElementReached}
-use Rattle.places.proofs.Cursors.{unmapped, plan-count, element-item, element-end, element-more, element-below, reached-ends}
+use Rattle.places.proofs.Cursors.{element-end, element-more, element-below, reached-ends}
 use Rattle.places.proofs.element_on.Statement.{statement}
 use Rattle.places.proofs.element_on.Tie as tie
 
@@ -15,8 +16,8 @@ Inv-loop a x elements i₀ begin₀ i begin = ElementReached (roadIn a) (record 
 abbrev μ-loop : tie.MeasureT-loop
 μ-loop a x elements i₀ begin₀ i begin = a .«element_count» - i
 
-long : (c : tie.Start Inv-loop μ-loop) → length (c .args .a .elements) ≡ 200
-long c = search (needs, unmapped)
+count : (c : tie.Start Inv-loop μ-loop) → length (roadIn (c .args .a) .plan) ≡ c .args .a .«element_count»
+count c = plan-count (c .args .a) (c .pre .0 .counted) (search (needs, unmapped))
 
 add-end : tie.Need-add-end Inv-loop μ-loop
 add-end c =
@@ -29,14 +30,14 @@ loop-again c =
     let s = c .before .before .before .before .before .before .before in
     let l = c .before .before .before .before .before .loop in
     let a = s .args .a in
-    let m = plan-count a (s .pre .0) (long s) in
+    let m = count s in
     element-more _ (l .inv) (element-item a (l .i) (omega arith)) (omega arith) (omega arith)
 
 returns : tie.Need-returns Inv-loop μ-loop
 returns c =
     let s = c .before .before .before .before in
     let l = c .before .before .loop in
-    let m = plan-count (s .args .a) (s .pre .0) (long s) in
+    let m = count s in
     record { begin = l .inv .begin; at = reached-ends (l .inv .at) (λ h. absurd (omega arith)) }
 
 returns-2 : tie.Need-returns-2 Inv-loop μ-loop

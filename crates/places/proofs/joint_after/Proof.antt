@@ -4,8 +4,9 @@ use native.Mathlib.Omega.{arith}
 use native.Mathlib.Numerals.{add-one}
 use Rattle.road.specs.Exact.{pointOf}
 use Rattle.road.specs.Held.{roadIn}
+use Rattle.road.specs.Lists.{element-within, element-item, point-within, point-item}
 use Rattle.road.specs.declared.Crossfall.{Crossfall}
-use Rattle.places.proofs.Cursors.{element-within, element-item, point-within, point-item, found-end}
+use Rattle.places.proofs.Cursors.{found-end}
 use Rattle.places.proofs.Found.{joint-last, joint-inner}
 use borrow.Author.Needs.{needs}
 use Rattle.places.proofs.joint_after.Statement.{statement}

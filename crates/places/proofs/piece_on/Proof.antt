@@ -5,10 +5,11 @@ use native.Mathlib.Numerals.{add-one}
 use lib.ListN.{length, getD}
 use Rattle.road.specs.Exact.{blankTangent, tangentOf}
 use Rattle.road.specs.Held.{roadIn}
+use Rattle.road.specs.Lists.{tangent-within, tangent-item}
 use Rattle.places.specs.declared.Piece.{Piece}
 use Rattle.places.specs.Places.{Sized}
 use Rattle.places.specs.Pieces.{PieceAt}
-use Rattle.places.proofs.Cursors.{tangent-within, tangent-item, sized}
+use Rattle.places.proofs.Cursors.{sized}
 use Rattle.places.proofs.Found.{on-part, past-part, before-piece, straight-piece, not-last, after-piece}
 use borrow.Author.Needs.{needs}
 use Rattle.places.proofs.piece_on.Statement.{statement}

@@ -5,9 +5,10 @@ use native.Mathlib.Numerals.{add-one}
 use borrow.Author.Needs.{needs}
 use lib.ListN.{length}
 use Rattle.road.specs.Held.{roadIn}
+use Rattle.road.specs.Lists.{unmapped, point-count, point-item}
 use Rattle.road.specs.declared.Crossfall.{Crossfall}
 use Rattle.places.specs.Places.{Reached, pointStation}
-use Rattle.places.proofs.Cursors.{unmapped, point-count, point-item, reached-ends}
+use Rattle.places.proofs.Cursors.{reached-ends}
 use Rattle.places.proofs.point_on.Statement.{statement}
 use Rattle.places.proofs.point_on.Tie as tie
 
@@ -17,13 +18,13 @@ Inv-loop a point x crossfalls i₀ i = Reached (pointStation (roadIn a)) (length
 abbrev μ-loop : tie.MeasureT-loop
 μ-loop a point x crossfalls i₀ i = a .«crossfall_count» - i
 
-long : (c : tie.Start Inv-loop μ-loop) → length (c .args .a .crossfalls) ≡ 200
-long c = search (needs, unmapped)
+count : (c : tie.Start Inv-loop μ-loop) → length (roadIn (c .args .a) .crossfalls) ≡ c .args .a .«crossfall_count»
+count c = point-count (c .args .a) (c .pre .0 .counted) (search (needs, unmapped))
 
 add-if1 : tie.Need-add-if1 Inv-loop μ-loop
 add-if1 c =
     let s = c .before .before in
-    let m = point-count (s .args .a) (s .pre .0) (long s) in
+    let m = count s in
     search needs
 
 loop-again : tie.Need-loop-again Inv-loop μ-loop
@@ -31,7 +32,7 @@ loop-again c =
     let s = c .before .before .before .before .before .before .before in
     let l = c .before .before .before .before .before .loop in
     let a = s .args .a in
-    let m = point-count a (s .pre .0) (long s) in
+    let m = count s in
     let q = ap (λ (p : Crossfall). p .station) (point-item a (l .i + 1) (omega arith)) in
     record { within = omega arith; begun = omega arith }
 
@@ -39,7 +40,7 @@ returns : tie.Need-returns Inv-loop μ-loop
 returns c =
     let s = c .before .before .before .before in
     let l = c .before .before .loop in
-    let m = point-count (s .args .a) (s .pre .0) (long s) in
+    let m = count s in
     reached-ends (l .inv) (λ h. absurd (omega arith))
 
 returns-2 : tie.Need-returns-2 Inv-loop μ-loop

@@ -4,8 +4,8 @@ use native.Mathlib.Omega.{arith}
 use native.Mathlib.Numerals.{add-one}
 use Rattle.road.specs.Exact.{pointOf}
 use Rattle.road.specs.Held.{roadIn}
+use Rattle.road.specs.Lists.{point-within, point-item}
 use Rattle.places.specs.Sides.{sidesOf}
-use Rattle.places.proofs.Cursors.{point-within, point-item}
 use borrow.Author.Needs.{needs}
 use Rattle.places.proofs.sides_on.Statement.{statement}
 use Rattle.places.proofs.sides_on.Tie as tie

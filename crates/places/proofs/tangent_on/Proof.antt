@@ -4,9 +4,10 @@ use native.Mathlib.Omega.{arith}
 use borrow.Author.Needs.{needs}
 use lib.ListN.{length}
 use Rattle.road.specs.Held.{roadIn}
+use Rattle.road.specs.Lists.{unmapped, tangent-count, tangent-item}
 use Rattle.places.specs.declared.TangentPlace.{TangentPlace}
 use Rattle.places.specs.Places.{TangentReached}
-use Rattle.places.proofs.Cursors.{unmapped, tangent-count, tangent-item, tangent-end, tangent-more, sized, reached-ends}
+use Rattle.places.proofs.Cursors.{tangent-end, tangent-more, sized, reached-ends}
 use Rattle.places.proofs.tangent_on.Statement.{statement}
 use Rattle.places.proofs.tangent_on.Tie as tie
 
@@ -16,8 +17,8 @@ Inv-loop a x tangents place₀ place = TangentReached (roadIn a) place x
 abbrev μ-loop : tie.MeasureT-loop
 μ-loop a x tangents place₀ place = a .«tangent_count» - place .index
 
-long : (c : tie.Start Inv-loop μ-loop) → length (c .args .a .tangents) ≡ 100
-long c = search (needs, unmapped)
+count : (c : tie.Start Inv-loop μ-loop) → length (roadIn (c .args .a) .tangents) ≡ c .args .a .«tangent_count»
+count c = tangent-count (c .args .a) (c .pre .0 .counted) (search (needs, unmapped))
 
 add-if2 : tie.Need-add-if2 Inv-loop μ-loop
 add-if2 c =
@@ -40,14 +41,14 @@ loop-again c =
     let s = c .before .before .before .before .before .before .before .before .before .before in
     let l = c .before .before .before .before .before .before .before .before .loop in
     let a = s .args .a in
-    let m = tangent-count a (s .pre .0) (long s) in
+    let m = count s in
     subst (λ (p : TangentPlace). TangentReached (roadIn a) p (s .args .x)) (sym (c .passed .ensures)) (tangent-more _ (l .inv) (tangent-item a (l .place .index) (omega arith)) (omega arith) (omega arith))
 
 returns : tie.Need-returns Inv-loop μ-loop
 returns c =
     let s = c .before .before .before .before .before in
     let l = c .before .before .before .loop in
-    let m = tangent-count (s .args .a) (s .pre .0) (long s) in
+    let m = count s in
     record { placed = l .inv .placed; at = reached-ends (l .inv .at) (λ h. absurd (omega arith)) }
 
 returns-2 : tie.Need-returns-2 Inv-loop μ-loop

@@ -1,26 +1,18 @@
 use mathlib.Core.Path.{_≡_, sym, ap, _∙_}
 use Prim.Native.Nat.{ℕ, _-_, _<_}
-use mathlib.Core.List.{List, map}
 use native.Mathlib.Omega.{arith}
 use borrow.Author.Needs.{needs}
-use lib.ListN.{length, length-take, length-map}
-use lib.Seq.{getD-take}
-use Rattle.road.specs.Exact.{blankCrossfall, pointOf}
+use lib.ListN.{length}
+use Rattle.road.specs.Exact.{pointOf}
 use Rattle.road.specs.Held.{roadIn}
+use Rattle.road.specs.Lists.{unmapped, point-item, point-count}
 use Rattle.road.specs.declared.Crossfall.{Crossfall}
 use Rattle.theorems.specs.Facts.{points-end}
 use Rattle.walk.proofs.total_length.Statement.{statement}
 use Rattle.walk.proofs.total_length.Tie as tie
 
--- the length of a struct's array, which is known of its machine words
-unmapped : (X Y : Type 0) (f : X → Y) (l : List X) (n : ℕ) → length (map f l) ≡ n → length l ≡ n
-unmapped X Y f l n e = sym (length-map l f) ∙ e
-
-long : (s : tie.Start) → length (s .args .t1 .crossfalls) ≡ 200
-long s = search (needs, unmapped)
-
 count : (s : tie.Start) → length (roadIn (s .args .t1) .crossfalls) ≡ s .args .t1 .«crossfall_count»
-count s = let e = long s in simp length-take (omega (arith, s .pre .counted .points))
+count s = point-count (s .args .t1) (s .pre .counted) (search (needs, unmapped))
 
 some : (s : tie.Start) → 0 < s .args .t1 .«crossfall_count»
 some s = omega (arith, count s, s .pre .road .point-count .low)
@@ -36,7 +28,7 @@ returns c =
     let s = c .before .before in
     let a = s .args .t1 in
     let n = a .«crossfall_count» in
-    ap (λ (p : Crossfall). p .station) (sym (getD-take n (a .crossfalls) (n - 1) blankCrossfall (omega (arith, some s))))
+    ap (λ (p : Crossfall). p .station) (point-item a (n - 1) (omega (arith, some s)))
     ∙ ap (λ (k : ℕ). pointOf (roadIn a) (k - 1) .station) (sym (count s))
     ∙ points-end (s .pre .road .facts-of)
 
