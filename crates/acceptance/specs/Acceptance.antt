@@ -23,6 +23,10 @@ asGotBy a (Refused n p) = refused n p
 abbrev pub asGot : Acceptance → Got Road
 asGot r = asGotBy (r .alignment) (r .outcome)
 
+-- the outcome that a match has taken says the same
+pub taken : (a : Alignment) {o p : Outcome} {g : Got Road} → o ≡ p → asGotBy a o ≡ g → asGotBy a p ≡ g
+taken a e q = sym (ap (asGotBy a) e) ∙ q
+
 -- the outcome of a road that was read up to a place
 abbrev pub outcomeOf : Verdict → ℕ → Outcome
 outcomeOf passes next = Accepted next

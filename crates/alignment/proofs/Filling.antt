@@ -60,7 +60,7 @@ before-more {A} one xs n {s} {from} {next} {a} r =
 left : (count i : ℕ) → i < count → count - i ≡ suc (count - (i + 1))
 left count i h = omega arith
 
-module _ {A : Type 0} (one : ℕ → Reading A) (size : ℕ) (blank : A) (s : List ℕ) (count : ℕ) (start : End) where
+module _ {A : Type 0} {one : ℕ → Reading A} {size : ℕ} {blank : A} {s : List ℕ} {count : ℕ} {start : End} where
   pub filling-starts : count ≤ size → Filling one size blank s count start (replicate size blank) 0 start
   filling-starts h = record {
     within = omega arith;
@@ -70,7 +70,7 @@ module _ {A : Type 0} (one : ℕ → Reading A) (size : ℕ) (blank : A) (s : Li
     so-far = rw (sub-zero count) (alike (many one count) (before [] (many one count)) s start (λ at. before-none (many one count s at)));
   }
 
-  module _ (items : List A) (i : ℕ) (end : End) (f : Filling one size blank s count start items i end) where
+  module _ {items : List A} {i : ℕ} {end : End} (f : Filling one size blank s count start items i end) where
     pub filling-turn : {a : A} {next : End} → i < count → Reads (one (count - (i + 1))) s end a next → Filling one size blank s count start (set items i a) (i + 1) next
     filling-turn {a} {next} h r = record {
       within = omega arith;
@@ -119,7 +119,7 @@ following-all one s v (Refused k p) = refl
 -- a count, the number of items that follow it, and the array that a loop fills with them
 module _ {A : Type 0} {one : ℕ → Reading A} (low high : ℕ) {size : ℕ} {blank : A} {s : List ℕ} {from : End} {v : ℕ} {start : End} {count : ℕ} (room : high ≤ size) (read : Reads (field low high) s from v start) (follow : count ≡ following v start) where
   pub list-starts : Filling one size blank s count start (replicate size blank) 0 start
-  list-starts = filling-starts one size blank s count start (omega (arith, following-few low high s from v start read))
+  list-starts = filling-starts (omega (arith, following-few low high s from v start read))
 
   pub list-ends : {items : List A} {i : ℕ} {end : End} → Filling one size blank s count start items i end → count ≤ i → Filled (listFields low high one) size blank s from items count end
   unfolding listFields
@@ -127,8 +127,8 @@ module _ {A : Type 0} {one : ℕ → Reading A} (low high : ℕ) {size : ℕ} {b
       let e : i ≡ count = omega arith in
       record {
         read = chained (λ (n : ℕ). many one n) read (record {
-          same = filling-ends one size blank s count start items i end f e ∙ ap (λ (n : ℕ). onward (many one n) s start) follow ∙ following-all one s v start;
+          same = filling-ends f e ∙ ap (λ (n : ℕ). onward (many one n) s start) follow ∙ following-all one s v start;
         });
         long = length-take-le count items (omega (arith, f .long, f .room));
-        rest = filling-pads one size blank s count start items i end f e;
+        rest = filling-pads f e;
       }

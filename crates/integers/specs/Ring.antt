@@ -1,7 +1,7 @@
 -- Identities of polynomials over ℤ, decided by computation, with any number of variables.
 --
--- `ring ρ a b tt` proves that a and b, read with the numbers ρ for v0, v1, .., are equal, where they are the same polynomial.
--- a and b are written with `v0 .. v12` (or `var i`), numerals `# n` (or `con z`), `_:+_ _:-_ _:*_`, in the shape of the goal: `pos (m * n)` is `v :* w`, with pos m and pos n in ρ.
+-- `ring ρ a b tt` proves that a and b, read with the numbers ρ for ($ 0), ($ 1), .., are equal, where they are the same polynomial.
+-- a and b are written with `($ 0) .. ($ 12)` (or `var i`), numerals `# n` (or `con z`), `_:+_ _:-_ _:*_`, in the shape of the goal: `pos (m * n)` is `v :* w`, with pos m and pos n in ρ.
 -- An order, a size, or an equation that follows from other facts is Bridge's; an equation e may be joined: `ring .. ∙ ap f e ∙ ring ..`.
 --
 -- How: an expression is multiplied out into a sorted sum of monomials; two are equal where the sum of their difference has only zeros.
@@ -24,44 +24,9 @@ pub data X : Type 0 where
   _:-_ : X → X → X
   _:*_ : X → X → X
 
-abbrev pub v0 : X
-v0 = var 0
-
-abbrev pub v1 : X
-v1 = var 1
-
-abbrev pub v2 : X
-v2 = var 2
-
-abbrev pub v3 : X
-v3 = var 3
-
-abbrev pub v4 : X
-v4 = var 4
-
-abbrev pub v5 : X
-v5 = var 5
-
-abbrev pub v6 : X
-v6 = var 6
-
-abbrev pub v7 : X
-v7 = var 7
-
-abbrev pub v8 : X
-v8 = var 8
-
-abbrev pub v9 : X
-v9 = var 9
-
-abbrev pub v10 : X
-v10 = var 10
-
-abbrev pub v11 : X
-v11 = var 11
-
-abbrev pub v12 : X
-v12 = var 12
+-- the number at place i
+abbrev pub $ : ℕ → X
+$ i = var i
 
 -- a numeral
 abbrev pub # : ℕ → X
@@ -251,4 +216,4 @@ module _ (ρ : List ℤ) where
 
 -- in use
 square : (a b : ℤ) → (a -ℤ b) *ℤ (a -ℤ b) ≡ a *ℤ a -ℤ pos 2 *ℤ a *ℤ b +ℤ b *ℤ b
-square a b = ring (a ∷ b ∷ []) ((v0 :- v1) :* (v0 :- v1)) (v0 :* v0 :- # 2 :* v0 :* v1 :+ v1 :* v1) tt
+square a b = ring (a ∷ b ∷ []) (($ 0 :- $ 1) :* ($ 0 :- $ 1)) ($ 0 :* $ 0 :- # 2 :* $ 0 :* $ 1 :+ $ 1 :* $ 1) tt

@@ -1,17 +1,15 @@
 -- A loop that counts the stations of one item after another: what is left to count, of any list of items.
 use mathlib.Core.Path.{_≡_, refl, sym, ap, ap₂, _∙_}
-use mathlib.Core.Bool.{Bool, true, false}
-use mathlib.Core.List.{List, [], _∷_, _++_, map}
+use mathlib.Core.List.{List, [], _∷_, map}
 use mathlib.Core.Option.{Option, none, some}
 use Prim.Native.Nat.{ℕ, zero, suc, _+_, _-_, _≤_, _<_, min}
 use native.Mathlib.Omega.{arith}
 use native.Mathlib.Nat.{sub-zero}
 use native.Mathlib.Numerals.{add-one}
 use lib.ListN.{length, getD}
-use lib.Dec.{leb}
 use borrow.Author.Tests.{le-leb, lt-leb}
-use Rattle.road.specs.Base.{if_then_else_, joined, countFrom}
-use Rattle.road.specs.Listed.{counted, orLess}
+use Rattle.road.specs.Base.{joined, countFrom}
+use Rattle.road.specs.Listed.{counted}
 use Rattle.listed.specs.Least.{leastWith, least-append, least-move}
 
 -- ---- one station

@@ -1,20 +1,16 @@
 -- How a cursor moves on along a list.
 use mathlib.Core.Path.{_≡_, refl, sym, ap, ap₂, _∙_, subst}
-use mathlib.Core.List.{List, map}
 use Prim.Native.Nat.{ℕ, zero, suc, _+_, _*_, _<_, _≤_}
 use native.Mathlib.Omega.{arith}
 use native.Mathlib.Numerals.{add-one}
-use lib.ListN.{length, take, getD, length-take, length-map}
-use lib.Seq.{getD-take}
+use lib.ListN.{length, take}
 use lib.IntN.{ℤ, pos, natAbs, _+ℤ_, _*ℤ_, +ℤ-assoc}
 use Rattle.integers.specs.Bridge.{abs-product, abs-sum}
 use Rattle.road.specs.Base.{sumOf}
 use Rattle.road.specs.File.{Road}
-use Rattle.road.specs.Exact.{blankElement, blankTangent, blankCrossfall, elementOf, tangentOf, pointOf, elementStart, tangentStart, rise}
+use Rattle.road.specs.Exact.{elementOf, tangentOf, elementStart, tangentStart, rise}
 use Rattle.road.specs.Rules.{halfBefore}
-use Rattle.road.specs.Held.{roadIn}
 use Rattle.road.specs.Lists.{element-step, tangent-step}
-use Rattle.road.specs.declared.Alignment.{Alignment}
 use Rattle.road.specs.declared.Element.{Element}
 use Rattle.road.specs.declared.Tangent.{Tangent}
 use Rattle.theorems.specs.Last.{Begun}
@@ -22,7 +18,7 @@ use Rattle.theorems.specs.Facts.{rise-next}
 use Rattle.theorems.specs.Guaranteed.{Guaranteed}
 use Rattle.places.specs.declared.ElementPlace.{ElementPlace}
 use Rattle.places.specs.declared.TangentPlace.{TangentPlace}
-use Rattle.places.specs.Places.{Ready, Reached, heightStart, gradeBefore, ElementReached, ElementFound, TangentPlaced, TangentReached, nextPlace, Sized}
+use Rattle.places.specs.Places.{Reached, heightStart, gradeBefore, ElementReached, ElementFound, TangentPlaced, TangentReached, nextPlace, Sized}
 
 -- ---- one cursor: where the next item does not begin at or before x, the last one is found
 pub reached-ends : {f : ℕ → ℕ} {n x i : ℕ} → Reached f n x i → (suc i < n → x < f (suc i)) → Begun f n x i

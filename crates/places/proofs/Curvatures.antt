@@ -8,7 +8,7 @@ use borrow.Author.Tests.{eq-eqb}
 use lib.ListN.{length}
 use lib.IntN.{ℤ, pos, negsuc, natAbs, _+ℤ_, _-ℤ_, _*ℤ_}
 use Rattle.integers.specs.Bridge.{nat, lt!, abs-product}
-use Rattle.integers.specs.Ring.{_:+_, _:-_, _:*_, #, ring, v0, v1, v2, v3}
+use Rattle.integers.specs.Ring.{_:+_, _:-_, _:*_, #, ring, $}
 use Rattle.integers.specs.Fraction.{_÷_, _×ᶠ_, _≈ᶠ_}
 use Rattle.integers.specs.Values.{_then_, positive-mul}
 use Rattle.road.specs.File.{Road}
@@ -58,13 +58,13 @@ module _ {r : Road} (G : Guaranteed r) where
     value = λ y o. straight-curvature (G .accepted-as) i y o (eq-eqb (elementOf r i .kind) 0 e) then record {
       left = omega arith;
       right = omega arith;
-      same = ring ((from elementStart r i to y) ∷ []) (# 0 :* # 1) ((# 0 :+ # 0 :* v0) :* # 1) tt;
+      same = ring ((from elementStart r i to y) ∷ []) (# 0 :* # 1) ((# 0 :+ # 0 :* $ 0) :* # 1) tt;
     };
     bend-size = omega arith;
     change-size = omega arith;
     span-low = lt! (nat 0) (nat 1) (omega arith);
     span-high = omega arith;
-    sum-size = λ d h. subst (λ (z : ℤ). natAbs z ≤ 1000000000 * 1) (ring (pos d ∷ []) (# 0) (# 0 :+ # 0 :* v0) tt) (omega arith);
+    sum-size = λ d h. subst (λ (z : ℤ). natAbs z ≤ 1000000000 * 1) (ring (pos d ∷ []) (# 0) (# 0 :+ # 0 :* $ 0) tt) (omega arith);
   }
 
   pub arc-curved : (i : ℕ) → i < length (r .plan) → elementOf r i .kind ≡ 1 → Curved r i (arcBend (elementOf r i .radius))
@@ -78,13 +78,13 @@ module _ {r : Road} (G : Guaranteed r) where
         value = λ y o. arc-curvature (G .accepted-as) i y o (eq-eqb (elementOf r i .kind) 1 e) then rw (bend-is R) (record {
           left = omega arith;
           right = omega arith;
-          same = ring (turned R ∷ pos (natAbs R) ∷ (from elementStart r i to y) ∷ []) (v0 :* v1) ((v0 :+ # 0 :* v2) :* v1) tt;
+          same = ring (turned R ∷ pos (natAbs R) ∷ (from elementStart r i to y) ∷ []) ($ 0 :* $ 1) (($ 0 :+ # 0 :* $ 2) :* $ 1) tt;
         });
         bend-size = omega arith;
         change-size = omega arith;
         span-low = lt! (nat 0) (nat (natAbs R)) (omega arith);
         span-high = omega arith;
-        sum-size = λ d l. subst (λ (z : ℤ). natAbs z ≤ 1000000000 * natAbs R) (ring (turned R ∷ pos d ∷ []) v0 (v0 :+ # 0 :* v1) tt) (omega arith);
+        sum-size = λ d l. subst (λ (z : ℤ). natAbs z ≤ 1000000000 * natAbs R) (ring (turned R ∷ pos d ∷ []) ($ 0) ($ 0 :+ # 0 :* $ 1) tt) (omega arith);
       }
 
   -- ---- a clothoid of length L beside an arc of radius R
@@ -107,21 +107,21 @@ module _ {r : Road} (G : Guaranteed r) where
     in-value d = rw (bend-is R) (record {
       left = span-positive;
       right = span-positive;
-      same = ring (turned R ∷ d ∷ pos (natAbs R) ∷ pos L ∷ []) ((v0 :* v1) :* (v2 :* v3)) ((# 0 :+ v0 :* v1) :* (v2 :* v3)) tt;
+      same = ring (turned R ∷ d ∷ pos (natAbs R) ∷ pos L ∷ []) (($ 0 :* $ 1) :* ($ 2 :* $ 3)) ((# 0 :+ $ 0 :* $ 1) :* ($ 2 :* $ 3)) tt;
     })
 
     out-value : (d u : ℤ) → u ≡ pos L -ℤ d → bend R ×ᶠ (u ÷ L) ≈ᶠ (turned R *ℤ pos L +ℤ (pos 0 -ℤ turned R) *ℤ d) ÷ (natAbs R * L)
     out-value d u e = rw (bend-is R, e) (record {
       left = span-positive;
       right = span-positive;
-      same = ring (turned R ∷ d ∷ pos (natAbs R) ∷ pos L ∷ []) ((v0 :* (v3 :- v1)) :* (v2 :* v3)) ((v0 :* v3 :+ (# 0 :- v0) :* v1) :* (v2 :* v3)) tt;
+      same = ring (turned R ∷ d ∷ pos (natAbs R) ∷ pos L ∷ []) (($ 0 :* ($ 3 :- $ 1)) :* ($ 2 :* $ 3)) (($ 0 :* $ 3 :+ (# 0 :- $ 0) :* $ 1) :* ($ 2 :* $ 3)) tt;
     })
 
     left-over : (d : ℕ) → d ≤ L → natAbs (turned R *ℤ pos L +ℤ (pos 0 -ℤ turned R) *ℤ pos d) ≤ 1000000000 * (natAbs R * L)
     left-over d u =
         let k : ℕ = L - d in
         let g : L ≡ k + d = omega arith in
-        let f : turned R *ℤ pos k ≡ turned R *ℤ pos (k + d) +ℤ (pos 0 -ℤ turned R) *ℤ pos d = ring (turned R ∷ pos k ∷ pos d ∷ []) (v0 :* v1) (v0 :* (v1 :+ v2) :+ (# 0 :- v0) :* v2) tt in
+        let f : turned R *ℤ pos k ≡ turned R *ℤ pos (k + d) +ℤ (pos 0 -ℤ turned R) *ℤ pos d = ring (turned R ∷ pos k ∷ pos d ∷ []) ($ 0 :* $ 1) ($ 0 :* ($ 1 :+ $ 2) :+ (# 0 :- $ 0) :* $ 2) tt in
         subst (λ (m : ℕ). natAbs (turned R *ℤ pos m +ℤ (pos 0 -ℤ turned R) *ℤ pos d) ≤ 1000000000 * (natAbs R * L)) (sym g) (subst (λ (z : ℤ). natAbs z ≤ 1000000000 * (natAbs R * L)) f (span-sum k (omega arith)))
 
   -- the arc follows
@@ -140,7 +140,7 @@ module _ {r : Road} (G : Guaranteed r) where
         change-size = omega arith;
         span-low = lt! (nat 0) (nat (natAbs R * L)) (omega (arith, span-positive R L w l));
         span-high = span-most R L w l;
-        sum-size = λ d u. subst (λ (z : ℤ). natAbs z ≤ 1000000000 * (natAbs R * L)) (ring (turned R ∷ pos d ∷ []) (v0 :* v1) (# 0 :+ v0 :* v1) tt) (span-sum R L w l d u);
+        sum-size = λ d u. subst (λ (z : ℤ). natAbs z ≤ 1000000000 * (natAbs R * L)) (ring (turned R ∷ pos d ∷ []) ($ 0 :* $ 1) (# 0 :+ $ 0 :* $ 1) tt) (span-sum R L w l d u);
       }
 
   -- the arc stands before
@@ -161,7 +161,7 @@ module _ {r : Road} (G : Guaranteed r) where
       }
     where
       rest : (a s l b : ℕ) → b ≡ a + l → (from s to b) ≡ pos l -ℤ (from a to s)
-      rest a s l b e = rw e (ring (pos a ∷ pos s ∷ pos l ∷ []) (v0 :+ v2 :- v1) (v2 :- (v1 :- v0)) tt)
+      rest a s l b e = rw e (ring (pos a ∷ pos s ∷ pos l ∷ []) ($ 0 :+ $ 2 :- $ 1) ($ 2 :- ($ 1 :- $ 0)) tt)
 
   pub after-arc : (i : ℕ) → i < length (r .plan) → elementOf r i .kind ≡ 2 → elementOf r (i - 1) .kind ≡ 1 → Curved r i (outBend (elementOf r (i - 1) .radius) (elementOf r i .length))
   after-arc i h e a =

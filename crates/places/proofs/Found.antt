@@ -10,7 +10,7 @@ use mathlib.Core.Bool.{Bool, true, false, _||_}
 use lib.Dec.{ltb, eqb}
 use lib.ListN.{length}
 use lib.IntN.{ℤ, pos, _+ℤ_, _-ℤ_, _*ℤ_, +ℤ-idr}
-use Rattle.integers.specs.Ring.{_:+_, _:-_, _:*_, ring, v0, v1, v2, v3}
+use Rattle.integers.specs.Ring.{_:+_, _:-_, _:*_, ring, $}
 use Rattle.road.specs.File.{Road}
 use Rattle.road.specs.Exact.{tangentOf, tangentStart, halfLength, rise}
 use Rattle.road.specs.Rules.{halfBefore}
@@ -69,7 +69,7 @@ curve-equal p q u v w = cc
 
 -- back from the next tangent's start, and ahead from this one's
 back : (H g : ℤ) (l k h : ℕ) → l ≡ k + h → (H +ℤ g *ℤ pos l) -ℤ g *ℤ pos h ≡ H +ℤ g *ℤ pos k
-back H g l k h e = rw e (ring (H ∷ g ∷ pos k ∷ pos h ∷ []) (v0 :+ v1 :* (v2 :+ v3) :- v1 :* v3) (v0 :+ v1 :* v2) tt)
+back H g l k h e = rw e (ring (H ∷ g ∷ pos k ∷ pos h ∷ []) ($ 0 :+ $ 1 :* ($ 2 :+ $ 3) :- $ 1 :* $ 3) ($ 0 :+ $ 1 :* $ 2) tt)
 
 module _ {r : Road} (G : Guaranteed r) {p : TangentPlace} {x : ℕ} (t : Tangent) (f : TangentFound r p x) (q : t ≡ tangentOf r (p .index)) where
   pub before-piece : x < p .begin + p .«half_before» → PieceAt r (curveBefore p t) x

@@ -8,7 +8,7 @@ use borrow.Author.Tests.{ne-eqb}
 use lib.ListN.{length}
 use lib.IntN.{ℤ, pos, _+ℤ_, _*ℤ_}
 use Rattle.integers.specs.Bridge.{nat, _⊕_, _⊖_, eq! }
-use Rattle.integers.specs.Ring.{_:+_, _:*_, #, ring, v0, v1, v2, v3, v4, v5}
+use Rattle.integers.specs.Ring.{_:+_, _:*_, #, ring, $}
 use Rattle.integers.specs.Fraction.{whole, _≈ᶠ_}
 use Rattle.integers.specs.Values.{_then_}
 use Rattle.road.specs.File.{Road}
@@ -30,18 +30,18 @@ use Rattle.places.specs.View.{stretchOf}
 
 -- in millionths, before the denominators are multiplied out
 level : (H g d : ℤ) → (H *ℤ pos 1000000 +ℤ (g *ℤ d) *ℤ pos 1000000) *ℤ pos 1000000 ≡ (H +ℤ g *ℤ d) *ℤ pos 1000000000000
-level H g d = ring (H ∷ g ∷ d ∷ []) ((v0 :* # 1000000 :+ (v1 :* v2) :* # 1000000) :* # 1000000) ((v0 :+ v1 :* v2) :* # 1000000000000) tt
+level H g d = ring (H ∷ g ∷ d ∷ []) (($ 0 :* # 1000000 :+ ($ 1 :* $ 2) :* # 1000000) :* # 1000000) (($ 0 :+ $ 1 :* $ 2) :* # 1000000000000) tt
 
 -- the tangent prolonged from the curve's start, k past its own
 bowed : (H g c u d : ℤ) (k h : ℕ) → d ≡ pos k +ℤ u
     → ((H *ℤ pos 1000000 +ℤ (g *ℤ d) *ℤ pos 1000000) *ℤ pos (4 * h * 1000000) +ℤ (c *ℤ (u *ℤ u)) *ℤ pos 1000000000000) *ℤ pos (4 * h * 1000000)
     ≡ (((H +ℤ g *ℤ pos k) +ℤ g *ℤ u) *ℤ pos (4 * h) +ℤ c *ℤ (u *ℤ u)) *ℤ pos (1000000000000 * (4 * h * 1000000))
 bowed H g c u d k h e = rw e (ring (H ∷ g ∷ c ∷ u ∷ pos k ∷ pos h ∷ [])
-    (((v0 :* # 1000000 :+ (v1 :* (v4 :+ v3)) :* # 1000000) :* (# 4 :* v5 :* # 1000000) :+ (v2 :* (v3 :* v3)) :* # 1000000000000) :* (# 4 :* v5 :* # 1000000))
-    (((v0 :+ v1 :* v4 :+ v1 :* v3) :* (# 4 :* v5) :+ v2 :* (v3 :* v3)) :* (# 1000000000000 :* (# 4 :* v5 :* # 1000000))) tt)
+    ((($ 0 :* # 1000000 :+ ($ 1 :* ($ 4 :+ $ 3)) :* # 1000000) :* (# 4 :* $ 5 :* # 1000000) :+ ($ 2 :* ($ 3 :* $ 3)) :* # 1000000000000) :* (# 4 :* $ 5 :* # 1000000))
+    ((($ 0 :+ $ 1 :* $ 4 :+ $ 1 :* $ 3) :* (# 4 :* $ 5) :+ $ 2 :* ($ 3 :* $ 3)) :* (# 1000000000000 :* (# 4 :* $ 5 :* # 1000000))) tt)
 
 graded : (g c u : ℤ) (h : ℕ) → (g *ℤ pos (2 * h) +ℤ (c *ℤ u) *ℤ pos 1) *ℤ pos (2 * h) ≡ (g *ℤ pos (2 * h) +ℤ c *ℤ u) *ℤ pos (1 * (2 * h))
-graded g c u h = ring (g ∷ c ∷ u ∷ pos h ∷ []) ((v0 :* (# 2 :* v3) :+ (v1 :* v2) :* # 1) :* (# 2 :* v3)) ((v0 :* (# 2 :* v3) :+ v1 :* v2) :* (# 1 :* (# 2 :* v3))) tt
+graded g c u h = ring (g ∷ c ∷ u ∷ pos h ∷ []) (($ 0 :* (# 2 :* $ 3) :+ ($ 1 :* $ 2) :* # 1) :* (# 2 :* $ 3)) (($ 0 :* (# 2 :* $ 3) :+ $ 1 :* $ 2) :* (# 1 :* (# 2 :* $ 3))) tt
 
 on-curve : {r : Road} {i x : ℕ} → Curve r i x → OnCurve r i x
 on-curve c = let h = c .high in record { place = c .place; long = c .long; low = c .low; high = omega arith }

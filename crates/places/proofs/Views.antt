@@ -12,7 +12,7 @@ use lib.ListN.{length}
 use lib.Dec.{leb}
 use lib.IntN.{ℤ, pos, natAbs, _+ℤ_, _-ℤ_, _*ℤ_}
 use Rattle.integers.specs.Bridge.{nat, _⊖_, le!, lt!, eq!, abs-difference}
-use Rattle.integers.specs.Ring.{_:+_, _:-_, _:*_, #, ring, v0, v1, v2, v3}
+use Rattle.integers.specs.Ring.{_:+_, _:-_, _:*_, #, ring, $}
 use Rattle.integers.specs.Fraction.{_÷_, _≈ᶠ_}
 use Rattle.integers.specs.Values.{_then_, mul-value}
 use Rattle.road.specs.Base.{if_then_else_}
@@ -84,7 +84,7 @@ module _ {r : Road} (G : Guaranteed r) where
     span-is = ahead (pointStation r k) (pointStation r (suc k)) (let h = apart in omega arith)
 
     over : (c c' d : ℤ) (s : ℕ) → (c *ℤ pos s +ℤ ((c' -ℤ c) *ℤ d) *ℤ pos 1) *ℤ pos s ≡ (c *ℤ pos s +ℤ (c' -ℤ c) *ℤ d) *ℤ pos (1 * s)
-    over c c' d s = ring (c ∷ c' ∷ d ∷ pos s ∷ []) ((v0 :* v3 :+ ((v1 :- v0) :* v2) :* # 1) :* v3) ((v0 :* v3 :+ (v1 :- v0) :* v2) :* (# 1 :* v3)) tt
+    over c c' d s = ring (c ∷ c' ∷ d ∷ pos s ∷ []) (($ 0 :* $ 3 :+ (($ 1 :- $ 0) :* $ 2) :* # 1) :* $ 3) (($ 0 :* $ 3 :+ ($ 1 :- $ 0) :* $ 2) :* (# 1 :* $ 3)) tt
 
     side-value : (d : Side) → crossfallBy d r k y ≈ᶠ crossfallIn d here y
     unfolding crossfallBy crossfallIn

@@ -9,7 +9,7 @@ use lib.ListN.{length, take, getD, length-take, length-map, List·getD-eq-defaul
 use lib.Seq.{getD-take}
 use Rattle.road.specs.Base.{sumOf}
 use Rattle.road.specs.File.{Road}
-use Rattle.road.specs.Exact.{blankElement, blankTangent, blankCrossfall, elementOf, tangentOf, pointOf, elementStart, tangentStart, total}
+use Rattle.road.specs.Exact.{blankElement, blankTangent, blankCrossfall, elementOf, tangentOf, pointOf, elementStart, tangentStart}
 use Rattle.road.specs.Held.{roadIn, Counted}
 use Rattle.road.specs.declared.Alignment.{Alignment}
 use Rattle.road.specs.declared.Element.{Element}

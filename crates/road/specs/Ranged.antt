@@ -1,19 +1,18 @@
 -- What holds of a road that was read: every number is in its range.
 use mathlib.Core.Path.{_≡_, refl, sym, ap, _∙_, subst}
-use Prim.Native.Nat.{ℕ, zero, suc, _+_, _<_, _≤_}
+use Prim.Native.Nat.{ℕ, zero, suc, _≤_}
 use native.Mathlib.Omega.{arith}
 use mathlib.Core.Bool.{Bool, true, false, _&&_}
 use mathlib.Core.List.{List, [], _∷_}
 use lib.ListN.{length}
 use lib.Dec.{T, leb, ltb, eqb, leb→le}
 use lib.IntN.{ℤ, pos, negsuc, natAbs}
-use lib.Signed.{leZ}
 use Rattle.number.specs.Reading.{Got, got, refused, andThen, Reading}
 use Rattle.number.specs.Reading.{many}
 use Rattle.decimal.specs.All.{All, none, more}
 use Rattle.road.specs.Base.{if_then_else_}
 use Rattle.number.specs.Number.{number}
-use Rattle.road.specs.File.{Road, inRange, field, signed, between, inSize, radius, element, half, tangent, point, Head, headFields, planFields, Profile, profileFields, crossfallFields, roadOf, fields, ended, read}
+use Rattle.road.specs.File.{Road, inRange, field, signed, between, radius, element, half, tangent, point, Head, headFields, planFields, Profile, profileFields, crossfallFields, roadOf, fields, ended, read}
 use Rattle.number.specs.Number.{signedOf}
 use Rattle.road.specs.declared.Element.{Element}
 use Rattle.road.specs.declared.Tangent.{Tangent}

@@ -23,7 +23,7 @@ use Rattle.theorems.specs.Ascends as A
 use Rattle.theorems.specs.Next.{listed-has}
 use Rattle.theorems.specs.ListingRun.{listing-run}
 use Rattle.theorems.specs.Visits.{listing-rows}
-use Rattle.runs.specs.Calls.{callsOf, runOf}
+use Rattle.runs.specs.Calls.{runOf}
 use Rattle.runs.specs.Recorded.{Recorded}
 use Rattle.runs.specs.Listing.{ListingRows, ListingRecorded}
 

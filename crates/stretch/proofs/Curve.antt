@@ -9,7 +9,7 @@ use lib.Signed.{_<ℤ_}
 use mir.Syntax.{w64}
 use mir.Val.{SFits}
 use Rattle.integers.specs.Bridge.{nat, _⊕_, _⊗_, le!, lt!, abs-add, abs-mul, abs-product}
-use Rattle.integers.specs.Ring.{_:+_, _:*_, #, ring, v0, v1, v2, v3}
+use Rattle.integers.specs.Ring.{_:+_, _:*_, #, ring, $}
 use Rattle.integers.specs.Fraction.{_÷_}
 use Rattle.integers.specs.Rounding.{floor, left, round, rounded, left-small}
 use Rattle.integers.specs.Width.{fits64, divisor, above-zero, parts-sum, small-parts, RoundParts}
@@ -90,9 +90,9 @@ module _ {line change half u : ℤ} (p : InCurve 27240000000000 line change half
           -- the exact numerator over 4h × 10⁶
           exact : q *ℤ (pos 4 *ℤ half *ℤ pos 1000000) +ℤ (part *ℤ (pos 4 *ℤ half) +ℤ rest) ≡ line *ℤ (pos 4 *ℤ half) +ℤ change *ℤ (u *ℤ u)
           exact =
-              ring (q ∷ (pos 4 *ℤ half) ∷ part ∷ rest ∷ []) (v0 :* (v1 :* # 1000000) :+ (v2 :* v1 :+ v3)) ((v0 :* # 1000000 :+ v2) :* v1 :+ v3) tt
+              ring (q ∷ (pos 4 *ℤ half) ∷ part ∷ rest ∷ []) ($ 0 :* ($ 1 :* # 1000000) :+ ($ 2 :* $ 1 :+ $ 3)) (($ 0 :* # 1000000 :+ $ 2) :* $ 1 :+ $ 3) tt
               ∙ ap (λ (x : ℤ). x *ℤ (pos 4 *ℤ half) +ℤ rest) (parts-sum (line +ℤ f) (pos 1000000) (lt! (nat 0) (nat 1000000) (omega arith)) e-q e-part)
-              ∙ ring (line ∷ f ∷ (pos 4 *ℤ half) ∷ rest ∷ []) ((v0 :+ v1) :* v2 :+ v3) (v0 :* v2 :+ (v1 :* v2 :+ v3)) tt
+              ∙ ring (line ∷ f ∷ (pos 4 *ℤ half) ∷ rest ∷ []) (($ 0 :+ $ 1) :* $ 2 :+ $ 3) ($ 0 :* $ 2 :+ ($ 1 :* $ 2 :+ $ 3)) tt
               ∙ ap (λ (x : ℤ). line *ℤ (pos 4 *ℤ half) +ℤ x) (parts-sum (change *ℤ (u *ℤ u)) (pos 4 *ℤ half) k-low e-f e-rest)
 
           pub height-answer : {r : ℤ} → r ≡ round (q *ℤ (pos 4 *ℤ half *ℤ pos 1000000) +ℤ (part *ℤ (pos 4 *ℤ half) +ℤ rest)) (natAbs (pos 4 *ℤ half *ℤ pos 1000000))

@@ -10,7 +10,7 @@ use mir.Syntax.{w64}
 use mir.Val.{SFits, ofZ, toZ}
 use mir.Facts.{toZ-ofZ}
 use Rattle.integers.specs.Bridge.{int, nat, _⊕_, _⊗_, eq!, eq?, le!, le?, lt!, abs-add, abs-mul, abs-product}
-use Rattle.integers.specs.Ring.{_:*_, ring, v0, v1, v2}
+use Rattle.integers.specs.Ring.{_:*_, ring, $}
 use Rattle.integers.specs.Fraction.{_÷_}
 use Rattle.integers.specs.Rounding.{floor, round, rounded, round-scale, round-from, round-upto}
 use Rattle.integers.specs.Width.{fits64, divisor, above-zero}
@@ -139,7 +139,7 @@ module _ {start change span width u : ℤ} (p : OnSide start change span width u
     even-drop : round (start *ℤ width) 1000000 ≡ round ((start *ℤ span +ℤ change *ℤ u) *ℤ width) (natAbs span * 1000000)
     even-drop = rw even-over
         (round-scale (natAbs span) (start *ℤ width) 1000000 (above-zero span (p .span-low)) (omega arith)
-        ∙ ap (λ (n : ℤ). round n (natAbs span * 1000000)) (ring (pos (natAbs span) ∷ start ∷ width ∷ []) (v0 :* (v1 :* v2)) ((v0 :* v1) :* v2) tt))
+        ∙ ap (λ (n : ℤ). round n (natAbs span * 1000000)) (ring (pos (natAbs span) ∷ start ∷ width ∷ []) ($ 0 :* ($ 1 :* $ 2)) (($ 0 :* $ 1) :* $ 2) tt))
 
     pub even-answer : {d : ℤ} → d ≡ round (start *ℤ width) 1000000 → _≡_ {A = Lane} (record { crossfall = start; drop = d }) (laneOf start change span width u)
     unfolding laneOf rounded

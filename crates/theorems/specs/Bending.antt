@@ -3,7 +3,7 @@ use mathlib.Core.List.{[], _∷_}
 use Prim.Native.Nat.{ℕ, suc, _-_}
 use lib.ListN.{take}
 use lib.IntN.{pos, _+ℤ_, _-ℤ_, _*ℤ_}
-use Rattle.integers.specs.Ring.{X, _:+_, _:-_, _:*_, #, ring, v0, v1, v2, v3, v4, v5, v6, v7, v8}
+use Rattle.integers.specs.Ring.{X, _:+_, _:-_, _:*_, #, ring, $}
 use Rattle.integers.specs.Fraction.{Frac, _÷_, _×ᶠ_}
 use Rattle.road.specs.File.{Road}
 use Rattle.road.specs.Limits.{limits}
@@ -20,13 +20,13 @@ Tangent S g st x = S :* # 1000000 :+ (g :* (x :- st)) :* # 1000000
 pub tangent-bends : (r : Road) (i a s t : ℕ) → Bends (λ x. tangentHeight r i x .num) a s t (pos 0)
 unfolding Bends tangentHeight startHeight
 tangent-bends r i a s t = ring ((r .start *ℤ pos 1000000 +ℤ rise (take i (r .tangents))) ∷ tangentOf r i .grade ∷ pos (tangentStart r i) ∷ pos a ∷ pos s ∷ pos t ∷ [])
-    (Chord (Tangent v0 v1 v2) v3 v4 v5) (# 0 :* (v4 :* v5 :* (v4 :+ v5))) tt
+    (Chord (Tangent ($ 0) ($ 1) ($ 2)) ($ 3) ($ 4) ($ 5)) (# 0 :* ($ 4 :* $ 5 :* ($ 4 :+ $ 5))) tt
 
 pub curve-bends : (r : Road) (i a s t : ℕ) → Bends (λ x. curveHeight r i x .num) a s t (gradeChange r i *ℤ pos 1000000000000)
 unfolding Bends curveHeight tangentHeight startHeight
 curve-bends r i a s t = ring ((r .start *ℤ pos 1000000 +ℤ rise (take i (r .tangents))) ∷ tangentOf r i .grade ∷ pos (tangentStart r i) ∷ gradeChange r i ∷ pos (halfLength r i) ∷ pos (vertex r i) ∷ pos a ∷ pos s ∷ pos t ∷ [])
-    (Chord (λ x. Tangent v0 v1 v2 x :* (# 4 :* v4 :* # 1000000) :+ (v3 :* ((x :+ v4 :- v5) :* (x :+ v4 :- v5))) :* # 1000000000000) v6 v7 v8)
-    (v3 :* # 1000000000000 :* (v7 :* v8 :* (v7 :+ v8))) tt
+    (Chord (λ x. Tangent ($ 0) ($ 1) ($ 2) x :* (# 4 :* $ 4 :* # 1000000) :+ ($ 3 :* ((x :+ $ 4 :- $ 5) :* (x :+ $ 4 :- $ 5))) :* # 1000000000000) ($ 6) ($ 7) ($ 8))
+    ($ 3 :* # 1000000000000 :* ($ 7 :* $ 8 :* ($ 7 :+ $ 8))) tt
 
 -- k / m of the drop between the points i and i + 1
 abbrev pub dropBy : (k m : ℕ) → Side → Road → ℕ → ℕ → Frac
@@ -35,4 +35,4 @@ dropBy k m d r i s = crossfallBy d r i s ×ᶠ (pos (limits r .lane) ÷ 1000000)
 pub drop-bends : (k m : ℕ) (d : Side) (r : Road) (i a s t : ℕ) → Bends (λ x. dropBy k m d r i x .num) a s t (pos 0)
 unfolding Bends crossfallBy
 drop-bends k m d r i a s t = ring (crossfallOf d (pointOf r i) ∷ (crossfallOf d (pointOf r (suc i)) -ℤ crossfallOf d (pointOf r i)) ∷ pos (pointOf r i .station) ∷ pos (pointOf r (suc i) .station - pointOf r i .station) ∷ pos (limits r .lane) ∷ pos k ∷ pos a ∷ pos s ∷ pos t ∷ [])
-    (Chord (λ x. (v0 :* v3 :+ (v1 :* (x :- v2)) :* # 1) :* v4 :* v5) v6 v7 v8) (# 0 :* (v7 :* v8 :* (v7 :+ v8))) tt
+    (Chord (λ x. ($ 0 :* $ 3 :+ ($ 1 :* (x :- $ 2)) :* # 1) :* $ 4 :* $ 5) ($ 6) ($ 7) ($ 8)) (# 0 :* ($ 7 :* $ 8 :* ($ 7 :+ $ 8))) tt

@@ -5,7 +5,7 @@ use mathlib.Core.Option.{Option, none, some}
 use Prim.Native.Nat.{ℕ, _+_, _*_, _-_, _≤_, _<_}
 use native.Mathlib.Omega.{arith}
 use lib.IntN.{ℤ, pos, _*ℤ_}
-use Rattle.integers.specs.Ring.{_:+_, _:-_, _:*_, #, ring, v0, v1, v2, v3, v4, v5, v6}
+use Rattle.integers.specs.Ring.{_:+_, _:-_, _:*_, #, ring, $}
 use Rattle.integers.specs.Rounding.{rounded}
 use Rattle.integers.specs.Fraction.{Frac, _÷_, whole, _+ᶠ_, _-ᶠ_, _×ᶠ_, size, _≤ᶠ_, _≈ᶠ_}
 use Rattle.integers.specs.Values.{positive-mul, other-way, add-value, mul-value, far-value}
@@ -112,14 +112,14 @@ unfolding surface edge
 edge-whole d r s =
     let h = height r s in
     let e = edgeDrop d r s in
-    ap₂ _÷_ (ring (h .num ∷ e .num ∷ pos (h .den) ∷ pos (e .den) ∷ []) (v0 :* (v3 :* # 1) :+ v1 :* # 1 :* v2) (v0 :* v3 :+ v1 :* v2) tt) (omega arith)
+    ap₂ _÷_ (ring (h .num ∷ e .num ∷ pos (h .den) ∷ pos (e .den) ∷ []) ($ 0 :* ($ 3 :* # 1) :+ $ 1 :* # 1 :* $ 2) ($ 0 :* $ 3 :+ $ 1 :* $ 2) tt) (omega arith)
 
 blade-whole : (d : Side) (r : Road) (a b x : ℕ) → straight (printedSurface 1 1 d r a) (printedSurface 1 1 d r b) a b x ≡ blade (printedEdge d r a) (printedEdge d r b) a b x
 unfolding straight printedSurface printedEdge blade
 blade-whole d r a b x = ap₂ _÷_
     (ring (rounded (height r a) ∷ rounded (edgeDrop d r a) ∷ rounded (height r b) ∷ rounded (edgeDrop d r b) ∷ pos (b - a) ∷ pos x ∷ pos a ∷ [])
-    ((v0 :* # 1 :+ v1 :* # 1 :* # 1) :* (# 1 :* v4) :+ ((v2 :* # 1 :+ v3 :* # 1 :* # 1) :* # 1 :- (v0 :* # 1 :+ v1 :* # 1 :* # 1) :* # 1) :* (v5 :- v6) :* # 1)
-    ((v0 :+ v1) :* v4 :+ (v2 :+ v3 :- (v0 :+ v1)) :* (v5 :- v6) :* # 1) tt)
+    (($ 0 :* # 1 :+ $ 1 :* # 1 :* # 1) :* (# 1 :* $ 4) :+ (($ 2 :* # 1 :+ $ 3 :* # 1 :* # 1) :* # 1 :- ($ 0 :* # 1 :+ $ 1 :* # 1 :* # 1) :* # 1) :* ($ 5 :- $ 6) :* # 1)
+    (($ 0 :+ $ 1) :* $ 4 :+ ($ 2 :+ $ 3 :- ($ 0 :+ $ 1)) :* ($ 5 :- $ 6) :* # 1) tt)
     (omega arith)
 
 pub between : {r : Road} → Facts r → (d : Side) (a b x : ℕ) → Neighbouring r a b → b ≤ total r → a ≤ x → x ≤ b

@@ -7,7 +7,7 @@ use native.Mathlib.Nat.{mul-le-mul-left}
 use lib.IntN.{ℤ, pos, _+ℤ_, _-ℤ_, _*ℤ_, natAbs}
 use lib.Dec.{leb→le, le→leb}
 use Rattle.integers.specs.Bridge.{abs-mul}
-use Rattle.integers.specs.Ring.{_:+_, _:-_, _:*_, #, ring, v0, v1, v2, v3, v4, v5, v6, v7, v8, v9}
+use Rattle.integers.specs.Ring.{_:+_, _:-_, _:*_, #, ring, $}
 use Rattle.integers.specs.Fraction.{_÷_, whole, _-ᶠ_, size, _≤ᶠ_}
 use Rattle.road.specs.Exact.{from_to_}
 use Rattle.theorems.specs.Surface.{straight}
@@ -23,10 +23,10 @@ unfolding Bends
 bends-sum H R d k a s t C h g =
     let P = pos (s * t * (s + t)) in
     ring (H a ∷ H (a + s + t) ∷ H (a + s) ∷ R a ∷ R (a + s + t) ∷ R (a + s) ∷ pos s ∷ pos t ∷ pos d ∷ pos k ∷ [])
-    ((v7 :* (v0 :* v9 :+ v3 :* v8) :+ v6 :* (v1 :* v9 :+ v4 :* v8)) :- (v6 :+ v7) :* (v2 :* v9 :+ v5 :* v8))
-    (((v7 :* v0 :+ v6 :* v1) :- (v6 :+ v7) :* v2) :* v9 :+ ((v7 :* v3 :+ v6 :* v4) :- (v6 :+ v7) :* v5) :* v8) tt
+    (($ 7 :* ($ 0 :* $ 9 :+ $ 3 :* $ 8) :+ $ 6 :* ($ 1 :* $ 9 :+ $ 4 :* $ 8)) :- ($ 6 :+ $ 7) :* ($ 2 :* $ 9 :+ $ 5 :* $ 8))
+    ((($ 7 :* $ 0 :+ $ 6 :* $ 1) :- ($ 6 :+ $ 7) :* $ 2) :* $ 9 :+ (($ 7 :* $ 3 :+ $ 6 :* $ 4) :- ($ 6 :+ $ 7) :* $ 5) :* $ 8) tt
     ∙ ap₂ (λ (x y : ℤ). x *ℤ pos k +ℤ y *ℤ pos d) h g
-    ∙ ring (C ∷ P ∷ pos k ∷ pos d ∷ []) (v0 :* v1 :* v2 :+ # 0 :* v1 :* v3) (v0 :* v2 :* v1) tt
+    ∙ ring (C ∷ P ∷ pos k ∷ pos d ∷ []) ($ 0 :* $ 1 :* $ 2 :+ # 0 :* $ 1 :* $ 3) ($ 0 :* $ 2 :* $ 1) tt
 
 -- orders of fractions that are not negative
 out⁻ : {a b c d : ℕ} → (pos a ÷ b) ≤ᶠ (pos c ÷ d) → a * d ≤ c * b
@@ -42,7 +42,7 @@ near p n m D h =
     omega arith
 
 ahead : (a s : ℕ) → (from a to (a + s)) ≡ pos s
-ahead a s = ring (pos a ∷ pos s ∷ []) (v0 :+ v1 :- v0) v1 tt
+ahead a s = ring (pos a ∷ pos s ∷ []) ($ 0 :+ $ 1 :- $ 0) ($ 1) tt
 
 -- a bound times m², where its terms have m already
 scale : (m n D X E K L : ℕ) → E ≡ m * m * X → L ≡ K * m → 4 * X ≤ 4 * n * (m * D) + L * n * n * n → 4 * E ≤ m * m * m * (4 * n * D + K * n * n * n)
@@ -63,13 +63,13 @@ straight-off N m D a s t p q C h hp hq =
     scaled : (pos t *ℤ (N a *ℤ pos m) +ℤ pos s *ℤ (N (a + s + t) *ℤ pos m)) -ℤ pos (s + t) *ℤ (N (a + s) *ℤ pos m) ≡ (C *ℤ pos m) *ℤ pos (s * t * (s + t))
     scaled =
         ring (N a ∷ N (a + s) ∷ N (a + s + t) ∷ pos s ∷ pos t ∷ pos m ∷ [])
-        ((v4 :* (v0 :* v5) :+ v3 :* (v2 :* v5)) :- (v3 :+ v4) :* (v1 :* v5))
-        (((v4 :* v0 :+ v3 :* v2) :- (v3 :+ v4) :* v1) :* v5) tt
+        (($ 4 :* ($ 0 :* $ 5) :+ $ 3 :* ($ 2 :* $ 5)) :- ($ 3 :+ $ 4) :* ($ 1 :* $ 5))
+        ((($ 4 :* $ 0 :+ $ 3 :* $ 2) :- ($ 3 :+ $ 4) :* $ 1) :* $ 5) tt
         ∙ ap (λ (x : ℤ). x *ℤ pos m) h
-        ∙ ring (C ∷ pos (s * t * (s + t)) ∷ pos m ∷ []) (v0 :* v1 :* v2) (v0 :* v2 :* v1) tt
+        ∙ ring (C ∷ pos (s * t * (s + t)) ∷ pos m ∷ []) ($ 0 :* $ 1 :* $ 2) ($ 0 :* $ 2 :* $ 1) tt
 
     same : (p *ℤ pos (m * m * (s + t)) +ℤ (q *ℤ pos m -ℤ p *ℤ pos m) *ℤ pos s *ℤ pos m) *ℤ pos D -ℤ N (a + s) *ℤ pos (m * (m * m * (s + t)))
         ≡ pos (m * m) *ℤ ((pos t *ℤ p +ℤ pos s *ℤ q) *ℤ pos D -ℤ pos (s + t) *ℤ (N (a + s) *ℤ pos m))
     same = ring (p ∷ q ∷ pos s ∷ pos t ∷ pos D ∷ N (a + s) ∷ pos m ∷ [])
-        ((v0 :* (v6 :* v6 :* (v2 :+ v3)) :+ (v1 :* v6 :- v0 :* v6) :* v2 :* v6) :* v4 :- v5 :* (v6 :* (v6 :* v6 :* (v2 :+ v3))))
-        ((v6 :* v6) :* ((v3 :* v0 :+ v2 :* v1) :* v4 :- (v2 :+ v3) :* (v5 :* v6))) tt
+        (($ 0 :* ($ 6 :* $ 6 :* ($ 2 :+ $ 3)) :+ ($ 1 :* $ 6 :- $ 0 :* $ 6) :* $ 2 :* $ 6) :* $ 4 :- $ 5 :* ($ 6 :* ($ 6 :* $ 6 :* ($ 2 :+ $ 3))))
+        (($ 6 :* $ 6) :* (($ 3 :* $ 0 :+ $ 2 :* $ 1) :* $ 4 :- ($ 2 :+ $ 3) :* ($ 5 :* $ 6))) tt

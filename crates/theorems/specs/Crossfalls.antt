@@ -5,7 +5,7 @@ use Prim.Native.Nat.{ℕ, suc, _*_, _-_, _≤_, _<_}
 use native.Mathlib.Omega.{arith}
 use lib.ListN.{length}
 use lib.IntN.{ℤ, pos, _+ℤ_, _-ℤ_, _*ℤ_}
-use Rattle.integers.specs.Ring.{_:+_, _:-_, _:*_, #, ring, v0, v1, v2}
+use Rattle.integers.specs.Ring.{_:+_, _:-_, _:*_, #, ring, $}
 use Rattle.integers.specs.Fraction.{whole, _≈ᶠ_}
 use Rattle.integers.specs.Values.{other-way, _then_}
 use Rattle.road.specs.File.{Road}
@@ -24,10 +24,10 @@ places r i = pointOf r i .station
 
 -- a pair has its points' crossfalls at its ends
 at-first : (c c' u : ℤ) (k : ℕ) → u ≡ pos 0 → (c *ℤ pos k +ℤ ((c' -ℤ c) *ℤ u) *ℤ pos 1) *ℤ pos 1 ≡ c *ℤ pos (1 * k)
-at-first c c' u k e = rw e (ring (c ∷ c' ∷ pos k ∷ []) ((v0 :* v2 :+ ((v1 :- v0) :* # 0) :* # 1) :* # 1) (v0 :* (# 1 :* v2)) tt)
+at-first c c' u k e = rw e (ring (c ∷ c' ∷ pos k ∷ []) (($ 0 :* $ 2 :+ (($ 1 :- $ 0) :* # 0) :* # 1) :* # 1) ($ 0 :* (# 1 :* $ 2)) tt)
 
 at-second : (c c' u : ℤ) (k : ℕ) → u ≡ pos k → (c *ℤ pos k +ℤ ((c' -ℤ c) *ℤ u) *ℤ pos 1) *ℤ pos 1 ≡ c' *ℤ pos (1 * k)
-at-second c c' u k e = rw e (ring (c ∷ c' ∷ pos k ∷ []) ((v0 :* v2 :+ ((v1 :- v0) :* v2) :* # 1) :* # 1) (v1 :* (# 1 :* v2)) tt)
+at-second c c' u k e = rw e (ring (c ∷ c' ∷ pos k ∷ []) (($ 0 :* $ 2 :+ (($ 1 :- $ 0) :* $ 2) :* # 1) :* # 1) ($ 1 :* (# 1 :* $ 2)) tt)
 
 module _ {r : Road} (P : Placed r) (d : Side) where
   pub by-positive : (i s : ℕ) → suc i < length (r .crossfalls) → 0 < crossfallBy d r i s .den

@@ -9,7 +9,7 @@ use borrow.Author.Tests.{ltb-false, eqb-true, eq-eqb}
 use lib.ListN.{length, List·getD-eq-default}
 use lib.Dec.{ltb, eqb}
 use lib.IntN.{ℤ, pos, negsuc, natAbs, _-ℤ_}
-use Rattle.integers.specs.Ring.{_:+_, _:-_, _:*_, #, ring, v0, v1, v2, v3, v4}
+use Rattle.integers.specs.Ring.{_:+_, _:-_, _:*_, #, ring, $}
 use Rattle.integers.specs.Fraction.{Frac, _÷_, whole, _+ᶠ_, _-ᶠ_, _×ᶠ_, _≈ᶠ_}
 use Rattle.integers.specs.Values.{positive-mul, same-value, other-way, _then_}
 use Rattle.road.specs.Base.{if_then_else_}
@@ -44,7 +44,7 @@ module _ (S E : Frac) (u : ℤ) (L : ℕ) (pS : 0 < S .den) (pE : 0 < E .den) (p
     left = evenly-positive;
     right = pS;
     same = rw e (ring (S .num ∷ E .num ∷ pos (S .den) ∷ pos (E .den) ∷ pos L ∷ [])
-        ((v0 :* (v3 :* v2 :* v4) :+ ((v1 :* v2 :- v0 :* v3) :* # 0) :* v2) :* v2) (v0 :* (v2 :* (v3 :* v2 :* v4))) tt);
+        (($ 0 :* ($ 3 :* $ 2 :* $ 4) :+ (($ 1 :* $ 2 :- $ 0 :* $ 3) :* # 0) :* $ 2) :* $ 2) ($ 0 :* ($ 2 :* ($ 3 :* $ 2 :* $ 4))) tt);
   }
 
   evenly-end : u ≡ pos L → evenly S E u L ≈ᶠ E
@@ -52,7 +52,7 @@ module _ (S E : Frac) (u : ℤ) (L : ℕ) (pS : 0 < S .den) (pE : 0 < E .den) (p
     left = evenly-positive;
     right = pE;
     same = rw e (ring (S .num ∷ E .num ∷ pos (S .den) ∷ pos (E .den) ∷ pos L ∷ [])
-        ((v0 :* (v3 :* v2 :* v4) :+ ((v1 :* v2 :- v0 :* v3) :* v4) :* v2) :* v3) (v1 :* (v2 :* (v3 :* v2 :* v4))) tt);
+        (($ 0 :* ($ 3 :* $ 2 :* $ 4) :+ (($ 1 :* $ 2 :- $ 0 :* $ 3) :* $ 4) :* $ 2) :* $ 3) ($ 1 :* ($ 2 :* ($ 3 :* $ 2 :* $ 4))) tt);
   }
 
 -- from 0, and to 0
@@ -61,7 +61,7 @@ evenly-in E u L pE pL = record {
   left = evenly-positive (whole (pos 0)) E u L (omega arith) pE pL;
   right = positive-mul (E .den) L pE pL;
   same = ring (E .num ∷ u ∷ pos (E .den) ∷ pos L ∷ [])
-      ((# 0 :* (v2 :* # 1 :* v3) :+ ((v0 :* # 1 :- # 0 :* v2) :* v1) :* # 1) :* (v2 :* v3)) ((v0 :* v1) :* (# 1 :* (v2 :* # 1 :* v3))) tt;
+      ((# 0 :* ($ 2 :* # 1 :* $ 3) :+ (($ 0 :* # 1 :- # 0 :* $ 2) :* $ 1) :* # 1) :* ($ 2 :* $ 3)) (($ 0 :* $ 1) :* (# 1 :* ($ 2 :* # 1 :* $ 3))) tt;
 }
 
 evenly-out : (S : Frac) (u w : ℤ) (L : ℕ) → 0 < S .den → 0 < L → w ≡ pos L -ℤ u → evenly S (whole (pos 0)) u L ≈ᶠ S ×ᶠ (w ÷ L)
@@ -69,7 +69,7 @@ evenly-out S u w L pS pL e = record {
   left = evenly-positive S (whole (pos 0)) u L pS (omega arith) pL;
   right = positive-mul (S .den) L pS pL;
   same = rw e (ring (S .num ∷ u ∷ pos (S .den) ∷ pos L ∷ [])
-      ((v0 :* (# 1 :* v2 :* v3) :+ ((# 0 :* v2 :- v0 :* # 1) :* v1) :* v2) :* (v2 :* v3)) ((v0 :* (v3 :- v1)) :* (v2 :* (# 1 :* v2 :* v3))) tt);
+      (($ 0 :* (# 1 :* $ 2 :* $ 3) :+ ((# 0 :* $ 2 :- $ 0 :* # 1) :* $ 1) :* $ 2) :* ($ 2 :* $ 3)) (($ 0 :* ($ 3 :- $ 1)) :* ($ 2 :* (# 1 :* $ 2 :* $ 3))) tt);
 }
 
 -- ---- an element by its kind
@@ -237,7 +237,7 @@ module _ {r : Road} (A : Accepted r) where
       (rest (elementStart r (suc i)) s (elementOf r (suc i) .length) (elementStart r (suc (suc i))) (element-step r (suc i)))
     where
       rest : (a s l b : ℕ) → b ≡ a + l → (from s to b) ≡ pos l -ℤ (from a to s)
-      rest a s l b e = rw e (ring (pos a ∷ pos s ∷ pos l ∷ []) (v0 :+ v2 :- v1) (v2 :- (v1 :- v0)) tt)
+      rest a s l b e = rw e (ring (pos a ∷ pos s ∷ pos l ∷ []) ($ 0 :+ $ 2 :- $ 1) ($ 2 :- ($ 1 :- $ 0)) tt)
 
   -- 0 at its straight end, its arc's at the other
   start-on : (i : ℕ) → i < length (r .plan) → OnElement r i (elementStart r i)

@@ -5,7 +5,7 @@ use mathlib.Core.Option.{some}
 use Prim.Native.Nat.{ℕ, suc, _+_, _*_, _≤_}
 use native.Mathlib.Omega.{arith}
 use lib.IntN.{ℤ, pos, _+ℤ_, _-ℤ_, _*ℤ_}
-use Rattle.integers.specs.Ring.{_:+_, _:-_, _:*_, #, ring, v0, v1, v2}
+use Rattle.integers.specs.Ring.{_:+_, _:-_, _:*_, #, ring, $}
 use Rattle.integers.specs.Fraction.{Frac, whole, _≈ᶠ_}
 use Rattle.integers.specs.Values.{same-value}
 use Rattle.road.specs.File.{Road}
@@ -22,10 +22,10 @@ abbrev pub curveGrade : Road → ℕ → ℕ → Frac
 curveGrade r i s = gradeBy r s (some i)
 
 flat-start : (g c u : ℤ) (h : ℕ) → u ≡ pos 0 → (g *ℤ pos (2 * h) +ℤ (c *ℤ u) *ℤ pos 1) *ℤ pos 1 ≡ g *ℤ pos (1 * (2 * h))
-flat-start g c u h e = rw e (ring (g ∷ c ∷ pos h ∷ []) ((v0 :* (# 2 :* v2) :+ (v1 :* # 0) :* # 1) :* # 1) (v0 :* (# 1 :* (# 2 :* v2))) tt)
+flat-start g c u h e = rw e (ring (g ∷ c ∷ pos h ∷ []) (($ 0 :* (# 2 :* $ 2) :+ ($ 1 :* # 0) :* # 1) :* # 1) ($ 0 :* (# 1 :* (# 2 :* $ 2))) tt)
 
 bent-end : (g g' u : ℤ) (h : ℕ) → u ≡ pos (h + h) → (g *ℤ pos (2 * h) +ℤ ((g' -ℤ g) *ℤ u) *ℤ pos 1) *ℤ pos 1 ≡ g' *ℤ pos (1 * (2 * h))
-bent-end g g' u h e = rw e (ring (g ∷ g' ∷ pos h ∷ []) ((v0 :* (# 2 :* v2) :+ ((v1 :- v0) :* (v2 :+ v2)) :* # 1) :* # 1) (v1 :* (# 1 :* (# 2 :* v2))) tt)
+bent-end g g' u h e = rw e (ring (g ∷ g' ∷ pos h ∷ []) (($ 0 :* (# 2 :* $ 2) :+ (($ 1 :- $ 0) :* ($ 2 :+ $ 2)) :* # 1) :* # 1) ($ 1 :* (# 1 :* (# 2 :* $ 2))) tt)
 
 -- grades meet at a vertex without a curve, since it has one grade on both sides
 pub grades-along : (r : Road) → Level r → Along r (gradeBy r) (tangentGrade r) (curveGrade r)

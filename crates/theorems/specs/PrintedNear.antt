@@ -6,7 +6,7 @@ use native.Mathlib.Omega.{arith}
 use native.Mathlib.Nat.{mul-le-mul-left}
 use lib.IntN.{ℤ, pos, _+ℤ_, _-ℤ_, _*ℤ_, natAbs}
 use Rattle.integers.specs.Bridge.{abs-add, abs-mul}
-use Rattle.integers.specs.Ring.{_:+_, _:-_, _:*_, #, ring, v0, v1, v2, v3, v4, v5, v6, v7}
+use Rattle.integers.specs.Ring.{_:+_, _:-_, _:*_, #, ring, $}
 use Rattle.integers.specs.Rounding.{round, rounded, round-near}
 use Rattle.integers.specs.Fraction.{Frac, _÷_, whole, _+ᶠ_, _-ᶠ_, _×ᶠ_, size, _≤ᶠ_}
 use Rattle.integers.specs.Values.{positive-mul}
@@ -27,8 +27,8 @@ sum-near h e f g k m part pm pf pg near-h near-e =
     let x = (h *ℤ pos (1 * m) +ℤ e *ℤ pos k *ℤ pos 1) *ℤ pos (c * (d * m)) -ℤ (f .num *ℤ pos (d * m) +ℤ g .num *ℤ pos k *ℤ pos c) *ℤ pos (1 * (1 * m)) in
     let twice : pos 2 *ℤ x ≡ pos (m * m * d) *ℤ u +ℤ pos (m * k * c) *ℤ v =
     ring (h ∷ e ∷ f .num ∷ g .num ∷ pos c ∷ pos d ∷ pos k ∷ pos m ∷ [])
-    (# 2 :* ((v0 :* (# 1 :* v7) :+ v1 :* v6 :* # 1) :* (v4 :* (v5 :* v7)) :- (v2 :* (v5 :* v7) :+ v3 :* v6 :* v4) :* (# 1 :* (# 1 :* v7))))
-    ((v7 :* v7 :* v5) :* (# 2 :* v4 :* v0 :- # 2 :* v2) :+ (v7 :* v6 :* v4) :* (# 2 :* v5 :* v1 :- # 2 :* v3)) tt in
+    (# 2 :* (($ 0 :* (# 1 :* $ 7) :+ $ 1 :* $ 6 :* # 1) :* ($ 4 :* ($ 5 :* $ 7)) :- ($ 2 :* ($ 5 :* $ 7) :+ $ 3 :* $ 6 :* $ 4) :* (# 1 :* (# 1 :* $ 7))))
+    (($ 7 :* $ 7 :* $ 5) :* (# 2 :* $ 4 :* $ 0 :- # 2 :* $ 2) :+ ($ 7 :* $ 6 :* $ 4) :* (# 2 :* $ 5 :* $ 1 :- # 2 :* $ 3)) tt in
     out⁺ (positive-mul (1 * (1 * m)) (c * (d * m)) (omega arith) (positive-mul c (d * m) pf (positive-mul d m pg pm))) (omega arith)
     (omega (
       arith,

@@ -13,7 +13,7 @@ use lib.Dec.{T, ltb, leb, eqb}
 use lib.IntN.{ℤ, pos, negsuc, natAbs, negℤ, _+ℤ_, _-ℤ_, _*ℤ_}
 use lib.Signed.{_<ℤ_, ltZ}
 use Rattle.integers.specs.Bridge.{int, _⊖_, eq!, abs?}
-use Rattle.integers.specs.Ring.{_:+_, _:-_, _:*_, #, ring, v0, v1, v2, v3, v4}
+use Rattle.integers.specs.Ring.{_:+_, _:-_, _:*_, #, ring, $}
 use Rattle.integers.specs.Fraction.{whole, _≈ᶠ_}
 use Rattle.integers.specs.Values.{cancel, same-value, other-way, _then_}
 use Rattle.road.specs.Base.{firstThat}
@@ -34,7 +34,7 @@ eqZ-true : (a b : ℤ) → eqZ a b ≡ true → a ≡ b
 eqZ-true a b e = let w = abs? (int a ⊖ int b) 0 (omega (arith, eqb-true (natAbs (a -ℤ b)) 0 e)) in eq! (int a) (int b) (omega arith)
 
 eqZ-same : (a b : ℤ) → a ≡ b → eqZ a b ≡ true
-eqZ-same a b e = eq-eqb (natAbs (a -ℤ b)) 0 (rw e (ap natAbs (ring (b ∷ []) (v0 :- v0) (# 0) tt)))
+eqZ-same a b e = eq-eqb (natAbs (a -ℤ b)) 0 (rw e (ap natAbs (ring (b ∷ []) ($ 0 :- $ 0) (# 0) tt)))
 
 -- from point j to the next no crossfall changes
 abbrev Same : Road → ℕ → Type 0
@@ -64,16 +64,16 @@ changes-on r i = (there, λ h. rw (first-clear (λ j. meets r i j && changes r j
 
 -- a pair of points with one crossfall
 flat-pair : (c c' u : ℤ) (k : ℕ) → c ≡ c' → (c *ℤ pos k +ℤ ((c' -ℤ c) *ℤ u) *ℤ pos 1) *ℤ pos 1 ≡ c *ℤ pos (1 * k)
-flat-pair c c' u k e = rw e (ring (c' ∷ u ∷ pos k ∷ []) ((v0 :* v2 :+ ((v0 :- v0) :* v1) :* # 1) :* # 1) (v0 :* (# 1 :* v2)) tt)
+flat-pair c c' u k e = rw e (ring (c' ∷ u ∷ pos k ∷ []) (($ 0 :* $ 2 :+ (($ 0 :- $ 0) :* $ 1) :* # 1) :* # 1) ($ 0 :* (# 1 :* $ 2)) tt)
 
 -- a pair with one value at two stations has one crossfall
 two-stations : (c c' x y z : ℤ) (k g : ℕ) → 0 < g → y ≡ x +ℤ pos g
     → (c *ℤ pos k +ℤ ((c' -ℤ c) *ℤ x) *ℤ pos 1) *ℤ pos 1 ≡ z → (c *ℤ pos k +ℤ ((c' -ℤ c) *ℤ y) *ℤ pos 1) *ℤ pos 1 ≡ z → c ≡ c'
 two-stations c c' x y z k g p e hx hy = cancel g c c' p
-    (ring (c ∷ c' ∷ pos g ∷ z ∷ []) (v0 :* v2) (v0 :* v2 :+ (v3 :- v3)) tt
+    (ring (c ∷ c' ∷ pos g ∷ z ∷ []) ($ 0 :* $ 2) ($ 0 :* $ 2 :+ ($ 3 :- $ 3)) tt
     ∙ ap₂ (λ (m n : ℤ). c *ℤ pos g +ℤ (m -ℤ n)) (sym hy) (sym hx)
     ∙ rw e (ring (c ∷ c' ∷ x ∷ pos k ∷ pos g ∷ [])
-    (v0 :* v4 :+ ((v0 :* v3 :+ ((v1 :- v0) :* (v2 :+ v4)) :* # 1) :* # 1 :- (v0 :* v3 :+ ((v1 :- v0) :* v2) :* # 1) :* # 1)) (v1 :* v4) tt))
+    ($ 0 :* $ 4 :+ (($ 0 :* $ 3 :+ (($ 1 :- $ 0) :* ($ 2 :+ $ 4)) :* # 1) :* # 1 :- ($ 0 :* $ 3 :+ (($ 1 :- $ 0) :* $ 2) :* # 1) :* # 1)) ($ 1 :* $ 4) tt))
 
 -- ---- the crossfall is constant on a whole element, ends included: at each station it is that of the point at the element's start
 unfoldable pub Constant : Road → ℕ → Type 0
@@ -172,7 +172,7 @@ module _ {r : Road} (P : Placed r) (i : ℕ) (long : elementStart r i < elementS
       (further (place j) x y (omega arith)) (at x (omega arith) (omega arith) .same) (at y (omega arith) (omega arith) .same)
     where
       further : (p x y : ℕ) → x ≤ y → (from p to y) ≡ (from p to x) +ℤ pos (y - x)
-      further p x y l = let e : y ≡ x + (y - x) = omega arith in ap (λ (k : ℕ). from p to k) e ∙ ring (pos p ∷ pos x ∷ pos (y - x) ∷ []) (v1 :+ v2 :- v0) ((v1 :- v0) :+ v2) tt
+      further p x y l = let e : y ≡ x + (y - x) = omega arith in ap (λ (k : ℕ). from p to k) e ∙ ring (pos p ∷ pos x ∷ pos (y - x) ∷ []) ($ 1 :+ $ 2 :- $ 0) (($ 1 :- $ 0) :+ $ 2) tt
 
   unchanged-if : Constant r i → (j : ℕ) → j < m → (meets r i j && changes r j) ≡ false
   unchanged-if c j h = go (meets r i j) refl

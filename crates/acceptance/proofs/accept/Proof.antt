@@ -1,10 +1,10 @@
-use mathlib.Core.Path.{_≡_, refl, sym, ap, _∙_, subst}
+use mathlib.Core.Path.{sym, ap, _∙_}
 use borrow.Author.Needs.{needs}
 use denote.Ref.{now}
 use Rattle.road.specs.Limits.{limits}
 use Rattle.road.specs.Rules.{judged}
 use Rattle.road.specs.Held.{roadIn}
-use Rattle.alignment.specs.Back.{WasRead, was-read, was-refused}
+use Rattle.alignment.specs.Back.{was-read, was-refused}
 use Rattle.acceptance.specs.Acceptance.{asGotBy, outcome-under, accepted-read, accepted-refused, answer-counted}
 use Rattle.acceptance.proofs.accept.Statement.{statement}
 use Rattle.acceptance.proofs.accept.Tie as tie

@@ -1,16 +1,14 @@
-use mathlib.Core.Path.{_≡_, sym, ap, _∙_}
-use mathlib.Core.List.{List, [], _∷_, _++_}
-use Prim.Native.Nat.{ℕ, _+_, _≤_}
+use mathlib.Core.Path.{sym}
+use mathlib.Core.List.{[], _∷_}
+use Prim.Native.Nat.{_≤_}
 use native.Mathlib.Omega.{arith}
 use borrow.Author.Needs.{needs}
-use lib.IntN.{ℤ}
 use lib.ListN.{length, length-append}
 use lib.Seq.{length-take-le}
 use mir.Facts.{toZ-ofZ}
 use Rattle.integers.specs.Width.{abs64}
 use Rattle.decimal.specs.Decimal.{decimal}
 use Rattle.decimal.specs.Length.{decimal-length}
-use Rattle.decimal.specs.Written.{Wrote, wrote-length}
 use Rattle.leaves_test.proofs.show.Statement.{statement}
 use Rattle.leaves_test.proofs.show.Tie as tie
 

@@ -1,7 +1,5 @@
 use native.Mathlib.Omega.{arith}
 use borrow.Author.Needs.{needs}
-use mir.Syntax.{w32, w64}
-use mir.Val.{SFits}
 use mir.Facts.{toZ-ofZ}
 use Rattle.leaves_test.proofs.wide.Statement.{statement}
 use Rattle.leaves_test.proofs.wide.Tie as tie

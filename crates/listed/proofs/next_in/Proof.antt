@@ -5,7 +5,7 @@ use borrow.Author.Needs.{needs}
 use Rattle.road.specs.Exact.{total}
 use Rattle.road.specs.Held.{roadIn}
 use Rattle.road.specs.Listed.{counted, multiples, elementEnds}
-use Rattle.listed.specs.Least.{asOption, leastWith, allCurveStations, next-parts}
+use Rattle.listed.specs.Least.{leastWith, allCurveStations, next-parts}
 use Rattle.listed.proofs.next_in.Statement.{statement}
 use Rattle.listed.proofs.next_in.Tie as tie
 

@@ -1,7 +1,5 @@
-use mathlib.Core.Path.{sym, ap, _∙_}
+use mathlib.Core.Path.{sym}
 use borrow.Author.Needs.{needs}
-use Rattle.road.specs.Listed.{counted}
-use Rattle.listed.specs.Least.{asOption}
 use Rattle.listed.specs.Counting.{not-counted, counted-first, counted-less, counted-more}
 use Rattle.listed.proofs.with_station.Statement.{statement}
 use Rattle.listed.proofs.with_station.Tie as tie

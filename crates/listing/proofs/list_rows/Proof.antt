@@ -1,7 +1,7 @@
-use mathlib.Core.Path.{sym, ap, _∙_}
+use mathlib.Core.Path.{_∙_}
 use borrow.Author.Needs.{needs}
 use denote.Ref.{now}
-use Rattle.acceptance.specs.Acceptance.{asGotBy}
+use Rattle.acceptance.specs.Acceptance.{taken}
 use Rattle.stationing.specs.Routines.{ready}
 use Rattle.listing.specs.Chunks.{list-accepted, list-refused}
 use Rattle.listing.proofs.list_rows.Statement.{statement}
@@ -10,19 +10,19 @@ use Rattle.listing.proofs.list_rows.Tie as tie
 put-rows-requires : tie.Need-put-rows-requires
 put-rows-requires c κs =
     let r = c .before .before .before .before .accept in
-    ready (now (c .before .before .before .before .before .before .before .args .file)) (r .result .alignment) _ (sym (ap (asGotBy (r .result .alignment)) (c .before .enum-told .given .1)) ∙ r .ensures .0) (r .ensures .1)
+    ready (now (c .before .before .before .before .before .before .before .args .file)) (r .result .alignment) _ (taken (r .result .alignment) (c .before .enum-told .given .1) (r .ensures .0)) (r .ensures .1)
 
 returns : tie.Need-returns
 returns c =
     let r = c .before .before .before .before .accept in
     let s = c .before .before .before .before .before .before .before .args in
-    list-refused (now (s .file)) (s .station) (now (s .out)) _ _ (sym (ap (asGotBy (r .result .alignment)) (c .before .outcome .given .1)) ∙ r .ensures .0)
+    list-refused (now (s .file)) (s .station) (now (s .out)) _ _ (taken (r .result .alignment) (c .before .outcome .given .1) (r .ensures .0))
 
 returns-2 : tie.Need-returns-2
 returns-2 c =
     let r = c .before .before .before .before .before .before .before .accept in
     let s = c .before .before .before .before .before .before .before .before .before .before .args in
-    let g = list-accepted (now (s .file)) (s .station) (now (s .out)) _ _ (sym (ap (asGotBy (r .result .alignment)) (c .before .before .before .before .enum-told .given .1)) ∙ r .ensures .0) in
+    let g = list-accepted (now (s .file)) (s .station) (now (s .out)) _ _ (taken (r .result .alignment) (c .before .before .before .before .enum-told .given .1) (r .ensures .0)) in
     (c .before .before .put-rows .ensures .0 ∙ g .0, c .before .before .put-rows .ensures .1 ∙ g .1)
 
 pub list-rows-spec : {M : Type 1} → statement M

@@ -6,7 +6,7 @@ use Rattle.road.specs.Limits.{limits}
 use Rattle.road.specs.Limits as road
 use Rattle.walk.specs.declared.Chunk.{Chunk}
 use Rattle.walk.specs.declared.Onward.{Onward}
-use Rattle.listing.specs.Chunks.{Listed, part, list-short, list-part}
+use Rattle.listing.specs.Chunks.{part, list-short, list-part}
 use Rattle.listing.proofs.put_rows.Statement.{statement}
 use Rattle.listing.proofs.put_rows.Tie as tie
 

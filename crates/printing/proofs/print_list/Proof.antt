@@ -1,14 +1,14 @@
 use mathlib.Core.Path.{_≡_, refl, sym, ap, _∙_}
-use Prim.Native.Nat.{ℕ, _-_, _≤_, _<_}
+use Prim.Native.Nat.{_-_, _≤_}
 use native.Mathlib.Omega.{arith}
 use borrow.Author.Needs.{needs}
 use lib.ListN.{length}
 use lib.Seq.{length-take-le}
 use denote.Ref.{now}
-use Rattle.acceptance.specs.Acceptance.{asGotBy}
+use Rattle.acceptance.specs.Acceptance.{taken}
 use Rattle.stationing.specs.Routines.{ready}
 use Rattle.listing.specs.Chunks.{ofList}
-use Rattle.listing.specs.Whole.{Going, Ending, going, ending, AcceptedAs, part-as, Printed, printed-none, printed-more}
+use Rattle.listing.specs.Whole.{Going, going, ending, AcceptedAs, part-as, Printed, printed-none, printed-more}
 use Rattle.printing.proofs.print_list.Statement.{statement}
 use Rattle.printing.proofs.print_list.Tie as tie
 
@@ -21,7 +21,7 @@ abbrev μ-loop : tie.MeasureT-loop
 loop-holds : tie.Need-loop-holds Inv-loop μ-loop
 loop-holds c =
     let r = c .before .before .before .accept in
-    let e = sym (ap (asGotBy (r .result .alignment)) (c .enum-told .given .1)) ∙ r .ensures .0 in
+    let e = taken (r .result .alignment) (c .enum-told .given .1) (r .ensures .0) in
     (refl, (printed-none _, record { end = _; was = e; ready = ready (now (c .before .before .before .before .before .before .args .file)) (r .result .alignment) _ e (r .ensures .1) }))
 
 put-rows-requires : tie.Need-put-rows-requires Inv-loop μ-loop

@@ -1,11 +1,9 @@
-use mathlib.Core.Path.{_≡_, sym, ap, _∙_}
-use Prim.Native.Nat.{ℕ, _+_, _≤_, _<_}
+use Prim.Native.Nat.{_≤_}
 use native.Mathlib.Omega.{arith}
 use borrow.Author.Needs.{needs}
 use lib.ListN.{length}
-use denote.Ref.{now}
 use Rattle.decimal.specs.Decimal.{digits}
-use Rattle.decimal.specs.Written.{Wrote, wrote-byte}
+use Rattle.decimal.specs.Written.{wrote-byte}
 use Rattle.printing.specs.RefusalLine.{digits-short}
 use Rattle.printing.proofs.put_number.Statement.{statement}
 use Rattle.printing.proofs.put_number.Tie as tie

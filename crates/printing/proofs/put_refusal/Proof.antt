@@ -1,13 +1,7 @@
-use mathlib.Core.Path.{_≡_, sym, ap, _∙_, subst}
-use mathlib.Core.List.{List, [], _∷_, _++_}
-use Prim.Native.Nat.{ℕ, _+_, _≤_}
 use native.Mathlib.Omega.{arith}
 use borrow.Author.Needs.{needs}
-use lib.ListN.{length, length-append}
-use denote.Ref.{now}
-use Rattle.decimal.specs.Decimal.{digits}
-use Rattle.decimal.specs.Written.{Wrote, wrote-append}
-use Rattle.printing.specs.RefusalLine.{digits-short, refusal-parts}
+use Rattle.decimal.specs.Written.{wrote-append}
+use Rattle.printing.specs.RefusalLine.{refusal-parts}
 use Rattle.printing.proofs.put_refusal.Statement.{statement}
 use Rattle.printing.proofs.put_refusal.Tie as tie
 

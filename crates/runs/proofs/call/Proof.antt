@@ -1,5 +1,5 @@
 -- `runs::call` meets its contract: the kind says which call it is, and each routine's contract is that call's step.
-use mathlib.Core.Path.{_≡_, refl, ap, _∙_}
+use mathlib.Core.Path.{refl, ap, _∙_}
 use Rattle.road.specs.Machine.{step}
 use Rattle.runs.specs.Answers.{numbersOf}
 use Rattle.runs.proofs.Called.{zero-row, other-next}

@@ -1,5 +1,5 @@
 -- `runs::fits_exactly` meets its contract: the remainder is 0 and the quotient is the count.
-use mathlib.Core.Path.{_≡_, sym, ap, _∙_}
+use mathlib.Core.Path.{sym, ap, _∙_}
 use Prim.Native.Nat.{ℕ, _*_, _<_}
 use native.Mathlib.Omega.{arith}
 use native.Mathlib.Nat.{mul-zero}

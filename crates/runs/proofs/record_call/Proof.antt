@@ -1,5 +1,5 @@
 -- `runs::record_call` meets its contract: the call's answer goes into the three places, and its buffer into the frames.
-use mathlib.Core.Path.{_≡_, ap}
+use mathlib.Core.Path.{ap}
 use lib.ListN.{set}
 use Rattle.runs.specs.declared.AnswerNumbers.{AnswerNumbers}
 use borrow.Author.Needs.{needs}

@@ -1,5 +1,5 @@
 -- `runs::run` meets its contract: what is lent fits and `run_sized` says the rest, or nothing is done.
-use mathlib.Core.Path.{_≡_, refl, sym, _∙_}
+use mathlib.Core.Path.{refl, sym, _∙_}
 use Rattle.runs.proofs.Sizes.{never, lent}
 use borrow.Author.Needs.{needs}
 use Rattle.runs.proofs.run.Statement.{statement}

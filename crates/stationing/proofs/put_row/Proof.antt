@@ -1,5 +1,5 @@
-use mathlib.Core.Path.{_≡_, sym, ap, _∙_}
-use Prim.Native.Nat.{ℕ, _+_, _≤_}
+use mathlib.Core.Path.{ap, _∙_}
+use Prim.Native.Nat.{ℕ}
 use native.Mathlib.Omega.{arith}
 use mathlib.Core.List.{List}
 use borrow.Author.Needs.{needs}
@@ -10,7 +10,6 @@ use Rattle.road.specs.Limits as road
 use Rattle.road.specs.Machine.{overwrite}
 use Rattle.stretch.specs.Stretch.{Shows}
 use Rattle.stretch.specs.Line.{line-shows}
-use Rattle.places.specs.View.{Viewed}
 use Rattle.road.specs.Held.{roadIn}
 use Rattle.stationing.specs.Routines.{overwritten}
 use Rattle.stationing.proofs.put_row.Statement.{statement}

@@ -1,7 +1,7 @@
-use mathlib.Core.Path.{sym, ap, _∙_}
+use mathlib.Core.Path.{_∙_}
 use borrow.Author.Needs.{needs}
 use denote.Ref.{now}
-use Rattle.acceptance.specs.Acceptance.{asGotBy}
+use Rattle.acceptance.specs.Acceptance.{taken}
 use Rattle.stationing.specs.Routines.{ready, row-accepted, row-refused}
 use Rattle.stationing.proofs.row.Statement.{statement}
 use Rattle.stationing.proofs.row.Tie as tie
@@ -9,19 +9,19 @@ use Rattle.stationing.proofs.row.Tie as tie
 row-in-requires : tie.Need-row-in-requires
 row-in-requires c κs =
     let r = c .before .before .before .before .accept in
-    ready (now (c .before .before .before .before .before .before .before .args .file)) (r .result .alignment) _ (sym (ap (asGotBy (r .result .alignment)) (c .before .enum-told .given .1)) ∙ r .ensures .0) (r .ensures .1)
+    ready (now (c .before .before .before .before .before .before .before .args .file)) (r .result .alignment) _ (taken (r .result .alignment) (c .before .enum-told .given .1) (r .ensures .0)) (r .ensures .1)
 
 returns : tie.Need-returns
 returns c =
     let r = c .before .before .before .before .accept in
     let s = c .before .before .before .before .before .before .before .args in
-    row-refused (now (s .file)) (s .station) (now (s .line)) _ _ (sym (ap (asGotBy (r .result .alignment)) (c .before .outcome .given .1)) ∙ r .ensures .0)
+    row-refused (now (s .file)) (s .station) (now (s .line)) _ _ (taken (r .result .alignment) (c .before .outcome .given .1) (r .ensures .0))
 
 returns-2 : tie.Need-returns-2
 returns-2 c =
     let r = c .before .before .before .before .before .before .before .accept in
     let s = c .before .before .before .before .before .before .before .before .before .before .args in
-    let g = row-accepted (now (s .file)) (s .station) (now (s .line)) _ _ (sym (ap (asGotBy (r .result .alignment)) (c .before .before .before .before .enum-told .given .1)) ∙ r .ensures .0) in
+    let g = row-accepted (now (s .file)) (s .station) (now (s .line)) _ _ (taken (r .result .alignment) (c .before .before .before .before .enum-told .given .1) (r .ensures .0)) in
     (c .before .before .row-in .ensures .0 ∙ g .0, c .before .before .row-in .ensures .1 ∙ g .1)
 
 pub row-spec : {M : Type 1} → statement M

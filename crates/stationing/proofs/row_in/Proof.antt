@@ -1,12 +1,10 @@
-use mathlib.Core.Path.{_≡_, sym, ap, _∙_, subst}
-use Prim.Native.Nat.{ℕ, _≤_, _<_}
+use mathlib.Core.Path.{ap, _∙_}
 use native.Mathlib.Omega.{arith}
 use borrow.Author.Needs.{needs}
 use denote.Ref.{now}
 use Rattle.road.specs.Held.{roadIn}
-use Rattle.road.specs.Exact.{total}
 use Rattle.road.specs.Machine.{wrote}
-use Rattle.stationing.specs.Routines.{RowGives, row-short, row-beyond, row-written}
+use Rattle.stationing.specs.Routines.{row-short, row-beyond, row-written}
 use Rattle.stationing.proofs.row_in.Statement.{statement}
 use Rattle.stationing.proofs.row_in.Tie as tie
 
