@@ -1,7 +1,6 @@
 -- The list of a file in parts: the rows of the listed stations from a station on, as many whole rows as a buffer has room for.
-use mathlib.Core.Path.{_≡_, refl, sym, ap, _∙_}
-use mathlib.Core.List.{List, [], _∷_}
-use mathlib.Core.Bool.{Bool, true, false}
+use mathlib.Core.Path.{_≡_, ap, _∙_}
+use mathlib.Core.List.{List}
 use Prim.Native.Nat.{ℕ, _≤_, _<_}
 use lib.ListN.{length}
 use lib.Dec.{ltb}
@@ -11,9 +10,8 @@ use Rattle.road.specs.Base.{if_then_else_}
 use Rattle.road.specs.File.{Road}
 use Rattle.road.specs.Rules.{accepted}
 use Rattle.road.specs.Machine.{overwrite}
-use Rattle.walk.specs.Rows.{Part, chunk, onward, answer}
+use Rattle.walk.specs.Rows.{chunk, answer}
 use Rattle.walk.specs.declared.Chunk.{Chunk}
-use Rattle.walk.specs.declared.Onward.{Onward}
 use Rattle.walk.specs.declared.Onward.the-variants as onwards
 use Rattle.listing.specs.declared.ListAnswer.{ListAnswer}
 use Rattle.listing.specs.declared.ListAnswer.the-variants as code
@@ -58,9 +56,9 @@ module _ (r : Road) (s : ℕ) (b : List ℕ) where
   list-part h = record { answered = rw (le-ltb (length b) 96 h); buffer = rw (le-ltb (length b) 96 h) }
 
 module _ (f : List ℕ) (s : ℕ) (b : List ℕ) where
-  pub list-accepted : (r : Road) (end : ℕ) → got r end ≡ accepted f → (listOn s (length b) (got r 0) ≡ listAnswer f s (length b)) × (rowsOn s b (got r 0) ≡ listBuffer f s b)
+  pub list-accepted : (r : Road) (end : ℕ) {given : Listed} {left : List ℕ} → got r end ≡ accepted f → (given ≡ listOn s (length b) (got r 0)) × (left ≡ rowsOn s b (got r 0)) → (given ≡ listAnswer f s (length b)) × (left ≡ listBuffer f s b)
   unfolding listAnswer listBuffer
-  list-accepted r end e = (ap (listOn s (length b)) e, ap (rowsOn s b) e)
+  list-accepted r end e g = (g .0 ∙ ap (listOn s (length b)) e, g .1 ∙ ap (rowsOn s b) e)
 
   pub list-refused : (n p : ℕ) → refused n p ≡ accepted f → (turnedAway n p ≡ listAnswer f s (length b)) × (b ≡ listBuffer f s b)
   unfolding listAnswer listBuffer

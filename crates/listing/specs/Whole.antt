@@ -1,6 +1,6 @@
 -- The whole list of a file from its parts: each part and the list from the station it goes on from are the list from where it began.
-use mathlib.Core.Path.{_≡_, refl, sym, ap, ap₂, _∙_, subst}
-use mathlib.Core.List.{List, [], _∷_, _++_, append-nil, append-assoc}
+use mathlib.Core.Path.{_≡_, refl, sym, ap, ap₂, _∙_}
+use mathlib.Core.List.{List, [], _++_, append-nil, append-assoc}
 use mathlib.Core.Bool.{Bool, true, false}
 use Prim.Native.Nat.{ℕ, _≤_, _<_}
 use native.Mathlib.Omega.{arith}
@@ -13,14 +13,13 @@ use Rattle.road.specs.Base.{if_then_else_, joined}
 use Rattle.road.specs.File.{Road}
 use Rattle.road.specs.Held.{roadIn}
 use Rattle.road.specs.declared.Alignment.{Alignment}
-use Rattle.road.specs.Exact.{total}
 use Rattle.road.specs.Line.{line}
 use Rattle.road.specs.Listed.{listed}
 use Rattle.road.specs.Listing.{refusalLine, listBy, listOf}
 use Rattle.road.specs.Machine.{overwrite}
 use Rattle.road.specs.Rules.{accepted}
-use Rattle.theorems.specs.Guaranteed.{Guaranteed, guaranteed}
-use Rattle.walk.specs.Rows.{Part, rowsThatFit, notBelow, chunk, onward, answer}
+use Rattle.theorems.specs.Guaranteed.{guaranteed}
+use Rattle.walk.specs.Rows.{notBelow, chunk, onward, answer}
 use Rattle.walk.specs.Parts.{fit-whole}
 use Rattle.walk.specs.NotBelow.{from-all}
 use Rattle.walk.specs.Inside.{listed-inside, chunk-fits}
@@ -141,7 +140,7 @@ pub record AcceptedAs (f : List ℕ) (a : Alignment) : Type 0 where
 
 -- its parts are the file's
 pub part-as : {f : List ℕ} {a : Alignment} {given : Listed} (s : ℕ) (b : List ℕ) → AcceptedAs f a → given ≡ listOn s (length b) (got (roadIn a) 0) → given ≡ listAnswer f s (length b)
-part-as {f} {a} s b h e = e ∙ list-accepted f s b (roadIn a) (h .end) (h .was) .0
+part-as {f} {a} s b h e = list-accepted f s b (roadIn a) (h .end) (h .was) (e, refl) .0
 
 -- ---- what a loop over the parts has handed on
 -- the text so far, and the list from the station to go on from, are the whole list

@@ -20,6 +20,7 @@ use Rattle.theorems.specs.Curvatures.{straight-curvature, arc-curvature, clotho
 use Rattle.theorems.specs.Guaranteed.{Guaranteed}
 use Rattle.places.proofs.Widths.{turned-size, opposite-size}
 use Rattle.places.specs.Bends.{turned, straightBend, arcBend, inBend, outBend, Curved}
+use Rattle.theorems.specs.Small.{from-rest}
 
 bend-is : (radius : ℤ) → bend radius ≡ turned radius ÷ natAbs radius
 bend-is (pos n) = refl
@@ -152,16 +153,13 @@ module _ {r : Road} (G : Guaranteed r) where
       let l = G .element-length (suc j) h in
       let t = turned-size R in
       record {
-        value = λ y o. clothoid-out (G .accepted-as) j y o (eq-eqb (elementOf r j .kind) 1 a) then out-value R L w l (from elementStart r (suc j) to y) (from y to elementStart r (suc (suc j))) (rest (elementStart r (suc j)) y L (elementStart r (suc (suc j))) (element-step r (suc j)));
+        value = λ y o. clothoid-out (G .accepted-as) j y o (eq-eqb (elementOf r j .kind) 1 a) then out-value R L w l (from elementStart r (suc j) to y) (from y to elementStart r (suc (suc j))) (from-rest (elementStart r (suc j)) y L (elementStart r (suc (suc j))) (element-step r (suc j)));
         bend-size = omega (arith, abs-product (turned R) (pos L) {k = 1000000000} {l = 10000000} (omega arith) (l .high));
         change-size = omega (arith, opposite-size R);
         span-low = lt! (nat 0) (nat (natAbs R * L)) (omega (arith, span-positive R L w l));
         span-high = span-most R L w l;
         sum-size = left-over R L w l;
       }
-    where
-      rest : (a s l b : ℕ) → b ≡ a + l → (from s to b) ≡ pos l -ℤ (from a to s)
-      rest a s l b e = rw e (ring (pos a ∷ pos s ∷ pos l ∷ []) ($ 0 :+ $ 2 :- $ 1) ($ 2 :- ($ 1 :- $ 0)) tt)
 
   pub after-arc : (i : ℕ) → i < length (r .plan) → elementOf r i .kind ≡ 2 → elementOf r (i - 1) .kind ≡ 1 → Curved r i (outBend (elementOf r (i - 1) .radius) (elementOf r i .length))
   after-arc i h e a =

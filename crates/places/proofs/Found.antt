@@ -15,7 +15,7 @@ use Rattle.road.specs.File.{Road}
 use Rattle.road.specs.Exact.{tangentOf, tangentStart, halfLength, rise}
 use Rattle.road.specs.Rules.{halfBefore}
 use Rattle.road.specs.declared.Tangent.{Tangent}
-use Rattle.theorems.specs.Tests.{or-left, or-right}
+use Rattle.road.specs.Tests.{or-left, or-right}
 use Rattle.theorems.specs.Facts.{start-first}
 use Rattle.theorems.specs.Guaranteed.{Guaranteed}
 use Rattle.places.specs.declared.TangentPlace.{TangentPlace}

@@ -7,9 +7,9 @@ use mathlib.Core.Bool.{Bool, true, false}
 use mathlib.Core.List.{List, [], _∷_}
 use mathlib.Core.Option.{Option, none, some}
 use lib.Dec.{T, leb, eqb, isEq, eqb→eq}
-use Rattle.road.specs.Base.{firstFrom, firstThat, if_then_else_}
+use Rattle.road.specs.Base.{firstFrom, firstThat, lastThat, if_then_else_}
 use Rattle.road.specs.Listed.{insert, ascending, counted, orLess, leastFrom}
-use Rattle.road.specs.Rules.{Rule, Verdict, passes, breaks, judge}
+use Rattle.road.specs.Rules.{Rule, passes, breaks, judge}
 
 -- ---- the least number that passes a test
 
@@ -20,6 +20,14 @@ firstFrom-yes test n k p = rw (p, firstFrom)
 firstFrom-no : (test : ℕ → Bool) (n k : ℕ) → test k ≡ false → firstFrom test (suc n) k ≡ firstFrom test n (suc k)
 unfolding firstFrom
 firstFrom-no test n k p = rw (p, firstFrom)
+
+pub last-yes : (test : ℕ → Bool) (n : ℕ) → test n ≡ true → lastThat test (suc n) ≡ n
+unfolding lastThat
+last-yes test n p = rw (p, lastThat)
+
+pub last-no : (test : ℕ → Bool) (n : ℕ) → test n ≡ false → lastThat test (suc n) ≡ lastThat test n
+unfolding lastThat
+last-no test n p = rw (p, lastThat)
 
 some-not-none : {k : ℕ} {o : Option ℕ} → o ≡ some k → o ≡ none → ⊥
 some-not-none p q = let z : _≡_ {A = ℕ} 0 1 = cc in omega arith

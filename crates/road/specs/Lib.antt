@@ -5,6 +5,7 @@ pub mod Source
 pub mod Exact
 pub mod Held
 pub mod Lists
+pub mod Tests
 pub mod Listed
 pub mod Rules
 pub mod Line

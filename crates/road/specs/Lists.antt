@@ -9,7 +9,7 @@ use lib.ListN.{length, take, getD, length-take, length-map, List·getD-eq-defaul
 use lib.Seq.{getD-take}
 use Rattle.road.specs.Base.{sumOf}
 use Rattle.road.specs.File.{Road}
-use Rattle.road.specs.Exact.{blankElement, blankTangent, blankCrossfall, elementOf, tangentOf, pointOf, elementStart, tangentStart}
+use Rattle.road.specs.Exact.{blankElement, blankTangent, blankCrossfall, elementOf, tangentOf, pointOf, elementStart, tangentStart, total}
 use Rattle.road.specs.Held.{roadIn, Counted}
 use Rattle.road.specs.declared.Alignment.{Alignment}
 use Rattle.road.specs.declared.Element.{Element}
@@ -113,10 +113,25 @@ module _ {start : ℕ → ℕ} {n i sum : ℕ} (s : Sums start n i sum) where
       let next : start (i + 1) ≡ start (suc i) = ap start (add-one i) in
       record { few = few; within = omega arith; is = omega arith; small = omega arith }
 
-  pub sums-end : {m : ℕ} → m ≡ n → n ≤ i → sum ≡ start m
+  sums-end : {m : ℕ} → m ≡ n → n ≤ i → sum ≡ start m
   sums-end {m} e h = let w = s .within in let same : i ≡ m = omega arith in s .is ∙ ap start same
 
--- the sums of the plan and of the profile, one item on
+-- the sums of the plan and of the profile: at the start, one item on, and at the end
+pub element-sums-start : (a : Alignment) → Counted a → Sums (elementStart (roadIn a)) (a .«element_count») 0 0
+unfolding elementStart sumOf
+element-sums-start a k = let h = k .plan in sums-start (omega arith) refl
+
+pub element-sums-end : (a : Alignment) → Counted a → {i sum : ℕ} → Sums (elementStart (roadIn a)) (a .«element_count») i sum → a .«element_count» ≤ i → length (a .elements) ≡ 200 → sum ≡ total (roadIn a)
+unfolding total
+element-sums-end a k s h e = sums-end s (plan-count a k e) h
+
+pub tangent-sums-start : (a : Alignment) → Counted a → Sums (tangentStart (roadIn a)) (a .«tangent_count») 0 0
+unfolding tangentStart sumOf
+tangent-sums-start a k = let h = k .profile in sums-start (omega arith) refl
+
+pub tangent-sums-end : (a : Alignment) → Counted a → {i sum : ℕ} → Sums (tangentStart (roadIn a)) (a .«tangent_count») i sum → a .«tangent_count» ≤ i → length (a .tangents) ≡ 100 → sum ≡ tangentStart (roadIn a) (length (roadIn a .tangents))
+tangent-sums-end a k s h e = sums-end s (tangent-count a k e) h
+
 pub element-sums : (a : Alignment) {i sum : ℕ} → Sums (elementStart (roadIn a)) (a .«element_count») i sum → i < a .«element_count» → getD (a .elements) i blankElement .length ≤ 4294967295
     → Sums (elementStart (roadIn a)) (a .«element_count») (i + 1) (sum + getD (a .elements) i blankElement .length)
 element-sums a {i} s h small = sums-on s h small (element-step (roadIn a) i ∙ ap (λ (e : Element). elementStart (roadIn a) i + e .length) (sym (element-item a i h)))

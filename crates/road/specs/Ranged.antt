@@ -11,6 +11,7 @@ use Rattle.number.specs.Reading.{Got, got, refused, andThen, Reading}
 use Rattle.number.specs.Reading.{many}
 use Rattle.decimal.specs.All.{All, none, more}
 use Rattle.road.specs.Base.{if_then_else_}
+use Rattle.road.specs.Tests.{and-T}
 use Rattle.number.specs.Number.{number}
 use Rattle.road.specs.File.{Road, inRange, field, signed, between, radius, element, half, tangent, point, Head, headFields, planFields, Profile, profileFields, crossfallFields, roadOf, fields, ended, read}
 use Rattle.number.specs.Number.{signedOf}
@@ -40,11 +41,6 @@ in-range fits a at s next {b} {last} e = go (fits a) refl e
     go true p e = let q : a ≡ b = cc in subst T (sym (ap fits (sym q) ∙ p)) tt
     go false p e = absurd (refused-not-got e)
 
-both : (a b : Bool) → T (a && b) → T a × T b
-both true true t = (tt, tt)
-both true false t = absurd t
-both false b t = absurd t
-
 pub record Within (a b v : ℕ) : Type 0 where
   pub low : a ≤ v
   pub high : v ≤ b
@@ -53,7 +49,7 @@ pub field-within : (low high : ℕ) (s : List ℕ) (at : ℕ) {v next : ℕ} →
 unfolding field
 field-within low high s at {v} e =
     let w = went (number s at) _ e in
-    let t = both (leb low v) (leb v high) (in-range (λ (n : ℕ). leb low n && leb n high) (w .value) at s (w .next) (w .rest)) in
+    let t = and-T (leb low v) (leb v high) (in-range (λ (n : ℕ). leb low n && leb n high) (w .value) at s (w .next) (w .rest)) in
     record { low = leb→le low v (t .0); high = leb→le v high (t .1) }
 
 pub signed-fits : (fits : ℤ → Bool) (s : List ℕ) (at : ℕ) {v : ℤ} {next : ℕ} → signed fits s at ≡ got v next → T (fits v)
@@ -95,7 +91,7 @@ element-range s at {e} h =
 -- from low to high, as the tests of the reader have it
 abs-between : (n m : ℕ) (v : ℤ) → T (between (negsuc n) (pos m) v) → suc n ≤ m → natAbs v ≤ m
 abs-between n m (pos a) t h = leb→le a m t
-abs-between n m (negsuc a) t h = let l = leb→le a n (both (leb a n) true t .0) in omega arith
+abs-between n m (negsuc a) t h = let l = leb→le a n (and-T (leb a n) true t .0) in omega arith
 
 pub record TangentRange (t : Tangent) : Type 0 where
   pub length : Within 1 10_000_000 (t .length)

@@ -1,6 +1,6 @@
 -- Refusal 19: elements and pairs of ascending points passed together.
 use mathlib.Core.Path.{_≡_, refl, ap, _∙_}
-use mathlib.Core.Bool.{Bool, true, false, not, _&&_, _||_}
+use mathlib.Core.Bool.{Bool, true, false, not, _&&_}
 use mathlib.Core.Option.{Option, none, some}
 use mathlib.Core.Logic.{_⊎_, inl, inr}
 use Prim.Native.Nat.{ℕ, zero, suc, _+_, _-_, _<_, _≤_}
@@ -20,19 +20,10 @@ use Rattle.road.specs.declared.Crossfall.{Crossfall}
 use Rattle.items.specs.Tests.{changesIn, allowedOn, arcTest}
 use Rattle.rules.specs.Judged.{PointsAscend}
 use Rattle.road.specs.Lists.{element-step}
+use Rattle.road.specs.Tests.{true-false, and-yes, or-no, or-yes, or-true}
+use Rattle.road.specs.Laws.{last-yes, last-no}
 
 -- ---- the last number below n that passes a test
-
-last-yes : (test : ℕ → Bool) (n : ℕ) → test n ≡ true → lastThat test (suc n) ≡ n
-unfolding lastThat
-last-yes test n p = rw (p, lastThat)
-
-last-no : (test : ℕ → Bool) (n : ℕ) → test n ≡ false → lastThat test (suc n) ≡ lastThat test n
-unfolding lastThat
-last-no test n p = rw (p, lastThat)
-
-true-false : {b : Bool} → b ≡ true → b ≡ false → ⊥
-true-false p q = let z : _≡_ {A = ℕ} 0 1 = cc in omega arith
 
 -- nothing that passes stands above it
 last-above : (test : ℕ → Bool) (n j : ℕ) → j < n → test j ≡ true → j ≤ lastThat test n
@@ -41,7 +32,7 @@ last-above test (suc n) j h t = go (test n) refl (ℕ-discrete j n) (λ h. last-
   where
     go : (b : Bool) → test n ≡ b → Dec (j ≡ n) → (j < n → j ≤ lastThat test n) → j ≤ lastThat test (suc n)
     go true p d ih = let e = last-yes test n p in omega arith
-    go false p (yes d) ih = absurd (true-false t (ap test d ∙ p))
+    go false p (yes d) ih = absurd (true-false _ t (ap test d ∙ p))
     go false p (no d) ih = let e = last-no test n p in let k = ih (omega (arith, d)) in omega arith
 
 -- it passes, unless it is 0
@@ -61,27 +52,11 @@ last-below test zero j f = omega arith
 last-below test (suc n) j f = go (test n) refl (decLt j n) (last-below test n j (λ k a b. f k a (omega arith)))
   where
     go : (b : Bool) → test n ≡ b → Dec (j < n) → lastThat test n ≤ j → lastThat test (suc n) ≤ j
-    go true p (yes d) ih = absurd (true-false p (f n d (omega arith)))
+    go true p (yes d) ih = absurd (true-false _ p (f n d (omega arith)))
     go true p (no d) ih = let e = last-yes test n p in omega arith
     go false p d ih = let e = last-no test n p in omega arith
 
 -- ---- tests
-
-or-yes : (a b : Bool) → (a || b) ≡ true → (a ≡ true) ⊎ (b ≡ true)
-or-yes true b e = inl refl
-or-yes false b e = inr e
-
-pub and-yes : (a b : Bool) → (a && b) ≡ true → (a ≡ true) × (b ≡ true)
-and-yes true b e = (refl, e)
-and-yes false b e = absurd (true-false e refl)
-
-pub and-no-then : (a b : Bool) → (a && b) ≡ false → a ≡ true → b ≡ false
-and-no-then true b e h = e
-and-no-then false b e h = absurd (true-false h refl)
-
-or-no : (a b : Bool) → (a || b) ≡ false → (a ≡ false) × (b ≡ false)
-or-no true b e = absurd (true-false refl e)
-or-no false b e = (refl, e)
 
 module _ (l : Limits) (r : Road) where
   -- the test of element i and the pair of points j and j + 1
@@ -233,7 +208,7 @@ module _ (l : Limits) (r : Road) (points : PointsAscend r) where
       go (yes h) = h
       go (no n) =
           let blank : pointOf r (suc j) .station ≡ 0 = ap (λ (x : Crossfall). x .station) (List·getD-eq-default (r .crossfalls) blankCrossfall (late n)) in
-          absurd (true-false e (before-it i j (omega arith)))
+          absurd (true-false _ e (before-it i j (omega arith)))
         where
           late : (j < length (r .crossfalls) - 1 → ⊥) → length (r .crossfalls) ≤ suc j
           late n = omega arith
@@ -244,7 +219,7 @@ module _ (l : Limits) (r : Road) (points : PointsAscend r) where
     where
       go : (o : Option ℕ) → firstThat (λ k. meets r i k && changes r k) (length (r .crossfalls) - 1) ≡ o → changesOn r i ≡ true
       go (some k) p = change-by r i (some k) p
-      go none p = absurd (true-false e (first-none _ _ p j h))
+      go none p = absurd (true-false _ e (first-none _ _ p j h))
 
   pub fails : {i j : ℕ} → Merged l r i j → pairTest l r i j ≡ true → wrongSuperelevation l r i ≡ true
   unfolding wrongSuperelevation arcTest allowedOn
@@ -253,19 +228,15 @@ module _ (l : Limits) (r : Road) (points : PointsAscend r) where
       change : isArc (elementOf r i) ≡ true → changesAt l r i j ≡ true → wrongSuperelevation l r i ≡ true
       change a h = rw (a, changed i j (on-list i j (m .pair) h) h)
 
-      either : (b : Bool) → (b || true) ≡ true
-      either true = refl
-      either false = refl
-
       bad : isArc (elementOf r i) ≡ true → leb (pointOf r j .station) (elementStart r i) ≡ true → not (allowedAt l r i j) ≡ true → wrongSuperelevation l r i ≡ true
       bad a h n =
           let f = found-at (elementStart r i) j (m .pair) (leb-true _ _ h) in
           let g = m .from in
           let p : pointAt r (elementStart r i) ≡ j = omega arith in
-          rw (a, p, n) (either (changesOn r i))
+          rw (a, p, n) (or-true (changesOn r i))
 
       go : (b : Bool) → isArc (elementOf r i) ≡ b → wrongSuperelevation l r i ≡ true
-      go false a = absurd (true-false e (rw a))
+      go false a = absurd (true-false _ e (rw a))
       go true a = which (or-yes _ _ (rw (a, arcTest) at e))
         where
           which : (changesAt l r i j ≡ true) ⊎ ((leb (pointOf r j .station) (elementStart r i) && not (allowedAt l r i j)) ≡ true) → wrongSuperelevation l r i ≡ true

@@ -1,5 +1,5 @@
 -- The loop that looks for the first item that breaks a rule, for every list and rule.
-use mathlib.Core.Path.{_≡_, sym, _∙_}
+use mathlib.Core.Path.{_≡_, sym, ap, _∙_}
 use mathlib.Core.Bool.{Bool, true, false}
 use mathlib.Core.Option.{none, some}
 use Prim.Native.Nat.{ℕ, suc, _+_, _-_, _<_, _≤_}
@@ -40,6 +40,20 @@ module _ {bad : ℕ → Bool} {n : ℕ} where
     where
       goes : firstFrom bad (n - i) i ≡ none
       goes = let e : n - i ≡ 0 = omega arith in rw e
+
+-- the same of a loop over a list's items that keeps the item before: `back` is that of place i
+pub record Looking {A : Type 0} (before : ℕ → A) (bad : ℕ → Bool) (most n places i : ℕ) (back : A) : Type 0 where
+  pub few : places ≤ n
+  pub room : n ≤ most
+  pub behind : back ≡ before i
+  pub passed : Passed bad places i
+
+module _ {A : Type 0} {before : ℕ → A} {bad : ℕ → Bool} {most n places i : ℕ} {back : A} (l : Looking before bad most n places i back) {b : Bool} where
+  pub looking-found : i < places → b ≡ bad i → b ≡ true → some i ≡ firstThat bad places
+  looking-found h e t = found (l .passed) h (sym e ∙ t)
+
+  pub looking-on : {item : A} → i < places → item ≡ before (suc i) → b ≡ bad i → b ≡ false → Looking before bad most n places (i + 1) item
+  looking-on h q e f = record { few = l .few; room = l .room; behind = q ∙ ap before (sym (add-one i)); passed = on (l .passed) h (sym e ∙ f) }
 
 -- a rule with one place
 pub nothing-1 : (bad : ℕ → Bool) → bad 0 ≡ false → none ≡ firstThat bad 1

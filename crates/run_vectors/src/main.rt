@@ -1,27 +1,6 @@
 // Makes the runs of the vectors: lists of calls of the two routines on one file and one buffer. Prints each answer and every byte of the buffer after each call.
-ghost use Prim.Native.Nat.{_≤_};
-use number::Number;
 use road::NextAnswer;
 use road::RowAnswer;
-
-// A number of the input and the place after it; 0 and the input's end where there is none.
-struct Item {
-    value: u64,
-    next: usize,
-}
-
-fn item_at(input: &[u8], at: usize) -> Item {
-    match reader::number_at(input, at) {
-        Number::Value(v, next) => Item {
-            value: v as u64,
-            next,
-        },
-        Number::Faulty => Item {
-            value: 0,
-            next: input.len(),
-        },
-    }
-}
 
 fn hex_digit(n: u8) -> u8 {
     if n < 10 {
@@ -114,9 +93,9 @@ fn run_calls(input: &[u8], at: usize, count: u64, file: &[u8], line: &mut [u8]) 
     let mut next = at;
     let mut i: u64 = 0;
     while i < count {
-        let kind = item_at(input, next);
-        let high = item_at(input, kind.next);
-        let low = item_at(input, high.next);
+        let kind = cases::item_at(input, next);
+        let high = cases::item_at(input, kind.next);
+        let low = cases::item_at(input, high.next);
         call(file, kind.value, station_of(high.value, low.value), line);
         next = low.next;
         i += 1;
@@ -124,33 +103,15 @@ fn run_calls(input: &[u8], at: usize, count: u64, file: &[u8], line: &mut [u8]) 
     next
 }
 
-// The end of a part of the input that has so many bytes; the input's end where it has fewer.
-fn end_of(input: &[u8], from: usize, count: u64) -> usize
-    requires { do ⌜ from ≤ (← ⟦input.len()⟧) ⌝ }
-    ensures { λ r. do ⌜ (from ≤ r) × (r ≤ (← ⟦input.len()⟧ .entry)) ⌝ }
-{
-    let left = input.len() - from;
-    if (left as u64) < count {
-        return input.len();
-    }
-    from + count as usize
-}
-
 // The run that the input has from a place on; the place after it.
 fn one_run(input: &[u8], at: usize) -> usize {
-    let file_length = item_at(input, at);
-    let from = file_length.next;
-    if input.len() < from {
-        return input.len();
-    }
-    let end = end_of(input, from, file_length.value);
+    let file_part = cases::part_at(input, at);
+    let from = file_part.from;
+    let end = file_part.end;
     let file = &input[from..end];
-    let line_length = item_at(input, end);
-    let begin = line_length.next;
-    if input.len() < begin {
-        return input.len();
-    }
-    let stop = end_of(input, begin, line_length.value);
+    let line_part = cases::part_at(input, end);
+    let begin = line_part.from;
+    let stop = line_part.end;
     let first = &input[begin..stop];
     let mut space = [0u8; 256];
     let size = first.len();
@@ -161,7 +122,7 @@ fn one_run(input: &[u8], at: usize) -> usize {
     bytes::copy(first, line);
     io::write_all(1, b"buffer ");
     show_bytes(line);
-    let calls = item_at(input, stop);
+    let calls = cases::item_at(input, stop);
     run_calls(input, calls.next, calls.value, file, line)
 }
 

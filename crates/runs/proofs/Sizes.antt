@@ -1,12 +1,13 @@
 -- The sizes of what is lent to a run.
 use mathlib.Core.Path.{_≡_, refl, sym, ap, _∙_}
 use mathlib.Core.Bool.{Bool, true, false, _&&_}
-use Prim.Native.Nat.{ℕ, zero, suc, _+_, _*_, _/_, _%_, _<_, _≤_}
+use Prim.Native.Nat.{ℕ, _*_, _/_, _%_, _<_}
 use native.Mathlib.Omega.{arith}
 use native.Mathlib.Nat.{mul-mod-left, mul-div-left, div-add-mod'}
 use lib.Dec.{eqb}
 use borrow.Author.Tests.{eq-eqb, ne-eqb, eqb-true, eqb-false}
 use Rattle.runs.specs.Recorded.{sized, Lent}
+use Rattle.road.specs.Tests.{and-yes}
 
 pub never : false ≡ true → ⊥
 never e = let z : _≡_ {A = ℕ} 0 1 = cc in omega arith
@@ -35,17 +36,12 @@ whole n c s p h = same-test (n / s) c n (c * s) to of
 
 -- ---- all that is lent
 
--- a conjunction of tests that holds has both
-both : (a b : Bool) → a && b ≡ true → (a ≡ true) × (b ≡ true)
-both true b e = (refl, e)
-both false b e = absurd (never e)
-
 pub lent : {k s c n p l f : ℕ} → sized k s c n p l f ≡ true → Lent k s c n p l f
 lent {k} {s} {c} {n} {p} {l} {f} e =
-    let a = both (((eqb s k && eqb c k) && eqb n k) && eqb p k) (eqb f (k * l)) e in
-    let b = both ((eqb s k && eqb c k) && eqb n k) (eqb p k) (a .0) in
-    let d = both (eqb s k && eqb c k) (eqb n k) (b .0) in
-    let g = both (eqb s k) (eqb c k) (d .0) in
+    let a = and-yes (((eqb s k && eqb c k) && eqb n k) && eqb p k) (eqb f (k * l)) e in
+    let b = and-yes ((eqb s k && eqb c k) && eqb n k) (eqb p k) (a .0) in
+    let d = and-yes (eqb s k && eqb c k) (eqb n k) (b .0) in
+    let g = and-yes (eqb s k) (eqb c k) (d .0) in
     record {
       stations-size = eqb-true s k (g .0);
       codes-size = eqb-true c k (g .1);

@@ -1,11 +1,11 @@
 -- What the two routines rest on: an accepted file's alignment, and the answers by the outcome of each test.
-use mathlib.Core.Path.{_≡_, refl, sym, ap, _∙_}
+use mathlib.Core.Path.{_≡_, sym, ap, _∙_}
 use mathlib.Core.List.{List, _++_}
 use Prim.Native.Nat.{ℕ, _+_, _≤_, _<_}
 use native.Mathlib.Omega.{arith}
 use borrow.Author.Tests.{lt-ltb, le-ltb}
-use lib.ListN.{length, take, drop}
-use Rattle.number.specs.Reading.{Got, got, refused}
+use lib.ListN.{length, drop}
+use Rattle.number.specs.Reading.{got, refused}
 use Rattle.decimal.specs.Written.{Wrote, written}
 use Rattle.road.specs.File.{Road}
 use Rattle.road.specs.Exact.{total}
@@ -47,9 +47,9 @@ module _ (r : Road) (s : ℕ) (b : List ℕ) where
 
 -- the answers of an accepted file do not look at where it ended; a refused one keeps its refusal
 module _ (f : List ℕ) (s : ℕ) where
-  pub row-accepted : (b : List ℕ) (r : Road) (end : ℕ) → got r end ≡ accepted f → (rowOn s (length b) (got r 0) ≡ rowAnswer f s (length b)) × (bufferOn s b (got r 0) ≡ rowBuffer f s b)
+  pub row-accepted : (b : List ℕ) (r : Road) (end : ℕ) {answer : Answer} {left : List ℕ} → got r end ≡ accepted f → (answer ≡ rowOn s (length b) (got r 0)) × (left ≡ bufferOn s b (got r 0)) → (answer ≡ rowAnswer f s (length b)) × (left ≡ rowBuffer f s b)
   unfolding rowAnswer rowBuffer
-  row-accepted b r end e = (ap (rowOn s (length b)) e, ap (bufferOn s b) e)
+  row-accepted b r end e g = (g .0 ∙ ap (rowOn s (length b)) e, g .1 ∙ ap (bufferOn s b) e)
 
   pub row-refused : (b : List ℕ) (n p : ℕ) → refused n p ≡ accepted f → (refusal n p ≡ rowAnswer f s (length b)) × (b ≡ rowBuffer f s b)
   unfolding rowAnswer rowBuffer

@@ -87,9 +87,6 @@ module _ {s : Stretch} {x : ℕ} (p : Sound s x) where
   pub point-distance : (x ≤ 100000000) × (natAbs (past (s .point) x) ≤ 1000000000)
   point-distance = (p .station, omega (arith, p .point-high, p .span-high))
 
-  pub element-distance : (x ≤ 100000000) × (natAbs (past (s .element) x) ≤ 1000000000)
-  element-distance = (p .station, omega (arith, p .element-high))
-
   -- ---- height and grade
   straight : ofZ w64 (s .half) ≡ 0 → natAbs (s .half) ≡ 0
   straight e = bits-zero (s .half) (p .half-low) e
@@ -101,10 +98,14 @@ module _ {s : Stretch} {x : ℕ} (p : Sound s x) where
   unfolding rounded
   grade-straight e = round-whole (s .grade) ∙ ap rounded (sym (grade-on-tangent s x (straight e)))
 
-  module _ {u : ℤ} (e-u : u ≡ past (s .from) x) where
-    pub line-along : natAbs (s .height) + natAbs (s .grade) * natAbs u < 9223372036854775808
-    line-along = rw e-u (omega (arith, mul-le-mul (p .grade) (from-distance .1), p .height-size))
+  pub height-line : (x ≤ 100000000) × ((natAbs (past (s .from) x) ≤ 1000000000) × (natAbs (s .height) + natAbs (s .grade) * natAbs (past (s .from) x) < 9223372036854775808))
+  height-line = (from-distance .0, (from-distance .1, omega (arith, mul-le-mul (p .grade) (from-distance .1), p .height-size)))
 
+  pub height-straight : {line : ℤ} → line ≡ onTangent s x → ofZ w64 (s .half) ≡ 0 → {r : ℤ} → r ≡ round line 1000000 → r ≡ rounded (heightIn s x)
+  unfolding rounded
+  height-straight e-line e q = q ∙ ap (λ (l : ℤ). round l 1000000) e-line ∙ ap rounded (sym (height-on-tangent s x (straight e)))
+
+  module _ {u : ℤ} (e-u : u ≡ past (s .from) x) where
     in-curve : {first : ℤ} (bound : ℕ) → natAbs first ≤ bound → (ofZ w64 (s .half) ≡ 0 → ⊥) → InCurve bound first (s .change) (s .half) u
     in-curve bound h e =
         let low = bits-other (s .half) (p .half-low) e in
@@ -124,38 +125,27 @@ module _ {s : Stretch} {x : ℕ} (p : Sound s x) where
         ∙ ap (λ (u : ℤ). rounded ((s .grade *ℤ pos (2 * natAbs (s .half)) +ℤ s .change *ℤ u) ÷ (2 * natAbs (s .half)))) e-u
         ∙ ap rounded (sym (grade-in-curve s x (curved e)))
 
-    module _ {line : ℤ} (e-line : line ≡ s .height +ℤ s .grade *ℤ u) where
-      line-is : line ≡ onTangent s x
-      line-is = e-line ∙ ap (λ (u : ℤ). s .height +ℤ s .grade *ℤ u) e-u
-
+    module _ {line : ℤ} (e-line : line ≡ onTangent s x) where
       pub height-curve : (ofZ w64 (s .half) ≡ 0 → ⊥) → InCurve 27240000000000 line (s .change) (s .half) u
-      height-curve e = in-curve 27240000000000 (rw line-is (p .height)) e
-
-      pub height-straight : ofZ w64 (s .half) ≡ 0 → {r : ℤ} → r ≡ round line 1000000 → r ≡ rounded (heightIn s x)
-      unfolding rounded
-      height-straight e q = q ∙ ap (λ (l : ℤ). round l 1000000) line-is ∙ ap rounded (sym (height-on-tangent s x (straight e)))
+      height-curve e = in-curve 27240000000000 (rw e-line (p .height)) e
 
       pub height-curved : (ofZ w64 (s .half) ≡ 0 → ⊥) → {r : ℤ} → r ≡ rounded ((line *ℤ pos (4 * natAbs (s .half)) +ℤ s .change *ℤ (u *ℤ u)) ÷ (4 * natAbs (s .half) * 1000000)) → r ≡ rounded (heightIn s x)
       height-curved e q = q
-          ∙ ap₂ (λ (l u : ℤ). rounded ((l *ℤ pos (4 * natAbs (s .half)) +ℤ s .change *ℤ (u *ℤ u)) ÷ (4 * natAbs (s .half) * 1000000))) line-is e-u
+          ∙ ap₂ (λ (l u : ℤ). rounded ((l *ℤ pos (4 * natAbs (s .half)) +ℤ s .change *ℤ (u *ℤ u)) ÷ (4 * natAbs (s .half) * 1000000))) e-line e-u
           ∙ ap rounded (sym (height-in-curve s x (curved e)))
 
   -- ---- curvature
-  module _ {u : ℤ} (e-u : u ≡ past (s .element) x) where
-    bend-size : natAbs (s .«bend_change») * natAbs u ≤ 1000000000 * 10000000
-    bend-size = rw e-u (mul-le-mul (p .bend-change) (p .element-high))
+  pub bend-line : (x ≤ 100000000) × ((natAbs (past (s .element) x) ≤ 1000000000) × (natAbs (s .bend) + natAbs (s .«bend_change») * natAbs (past (s .element) x) < 9223372036854775808))
+  bend-line = (p .station, (omega (arith, p .element-high), omega (arith, mul-le-mul (p .bend-change) (p .element-high), p .bend)))
 
-    pub bend-along : natAbs (s .bend) + natAbs (s .«bend_change») * natAbs u < 9223372036854775808
-    bend-along = omega (arith, bend-size, p .bend)
+  module _ {over : ℤ} (e-over : over ≡ s .bend +ℤ s .«bend_change» *ℤ past (s .element) x) where
+    pub curvature-answer : {r : ℤ} → r ≡ round over (natAbs (s .«bend_span»)) → r ≡ rounded (curvatureIn s x)
+    unfolding rounded curvatureIn
+    curvature-answer e = e ∙ ap (λ (n : ℤ). round n (natAbs (s .«bend_span»))) e-over
 
-    module _ {over : ℤ} (e-over : over ≡ s .bend +ℤ s .«bend_change» *ℤ u) where
-      pub curvature-answer : {r : ℤ} → r ≡ round over (natAbs (s .«bend_span»)) → r ≡ rounded (curvatureIn s x)
-      unfolding rounded curvatureIn
-      curvature-answer e = e ∙ ap (λ (n : ℤ). round n (natAbs (s .«bend_span»))) (e-over ∙ ap (λ (u : ℤ). s .bend +ℤ s .«bend_change» *ℤ u) e-u)
-
-      pub no-curvature : SFits w64 over → ofZ w64 over ≡ 0 → pos 0 ≡ rounded (curvatureIn s x)
-      no-curvature f e = let k = natAbs (s .«bend_span») in
-          curvature-answer (round-multiple k (pos 0) (above-zero (s .«bend_span») (p .bend-low)) (is-zero f e ∙ ap pos (let h : 0 ≡ k * 0 = omega arith in h)))
+    pub no-curvature : SFits w64 over → ofZ w64 over ≡ 0 → pos 0 ≡ rounded (curvatureIn s x)
+    no-curvature f e = let k = natAbs (s .«bend_span») in
+        curvature-answer (round-multiple k (pos 0) (above-zero (s .«bend_span») (p .bend-low)) (is-zero f e ∙ ap pos (let h : 0 ≡ k * 0 = omega arith in h)))
 
   -- ---- the two sides
   module _ {u : ℤ} (e-u : u ≡ past (s .point) x) (d : Side) where

@@ -69,6 +69,14 @@ fn along(start: i64, slope: i64, distance: i64) -> i64
     start + slope * distance
 }
 
+// The same at a station.
+fn line_at(start: i64, slope: i64, from: i64, x: u64) -> i64
+    requires { ⌜ x ≤ 100000000 ⌝ ∗ ⌜ natAbs (past from x) ≤ 1000000000 ⌝ ∗ ⌜ natAbs start + natAbs slope * natAbs (past from x) < 9223372036854775808 ⌝ }
+    ensures { λ r. ⌜ r ≡ start +ℤ slope *ℤ past from x ⌝ }
+{
+    along(start, slope, distance(from, x))
+}
+
 // The height u past the start of a vertical curve, whose first tangent, prolonged, is there at `line` millionths.
 fn curve_height(line: i64, change: i64, half: i64, u: i64) -> i64
     requires { ⌜ InCurve 27240000000000 line change half u ⌝ }
@@ -96,12 +104,11 @@ pub fn height_at(s: Stretch, x: u64) -> i64
     requires { ⌜ Sound s x ⌝ }
     ensures { λ r. ⌜ r ≡ rounded (heightIn s x) ⌝ }
 {
-    let u = distance(s.from, x);
-    let line = along(s.height, s.grade, u);
+    let line = line_at(s.height, s.grade, s.from, x);
     if s.half == 0 {
         integers::round_div(line, 1000000)
     } else {
-        curve_height(line, s.change, s.half, u)
+        curve_height(line, s.change, s.half, distance(s.from, x))
     }
 }
 
@@ -122,7 +129,7 @@ pub fn curvature_at(s: Stretch, x: u64) -> i64
     requires { ⌜ Sound s x ⌝ }
     ensures { λ r. ⌜ r ≡ rounded (curvatureIn s x) ⌝ }
 {
-    let over = along(s.bend, s.bend_change, distance(s.element, x));
+    let over = line_at(s.bend, s.bend_change, s.element, x);
     // a straight needs no division
     if over == 0 {
         0

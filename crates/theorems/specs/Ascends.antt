@@ -88,7 +88,7 @@ ascends-strictly (step l empty) i h = absurd (omega arith)
 ascends-strictly (step l (step m a)) zero h = m
 ascends-strictly (step l (step m a)) (suc i) h = ascends-strictly (step m a) i (omega arith)
 
-ascends-low : {s : ℕ} {l : List ℕ} {x : ℕ} → Ascends s l → List·Memᴰ x l → s ≤ x
+pub ascends-low : {s : ℕ} {l : List ℕ} {x : ℕ} → Ascends s l → List·Memᴰ x l → s ≤ x
 ascends-low empty m = absurd (List·Memᴰ·not-nil m)
 ascends-low {s} {x} (step {x = y} {xs = l} h a) m = go (List·Memᴰ·cases-cons m) (λ n. ascends-low a n)
   where

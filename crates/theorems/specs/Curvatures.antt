@@ -20,11 +20,12 @@ use Rattle.road.specs.Rules.{rules, tightArc}
 use Rattle.road.specs.Laws.{Kept}
 use Rattle.road.specs.Positive.{Accepted}
 use Rattle.road.specs.Lists.{element-step}
-use Rattle.theorems.specs.Tests.{true-false}
+use Rattle.road.specs.Tests.{true-false}
 use Rattle.theorems.specs.Table.{limits-sound}
 use Rattle.theorems.specs.Ranges.{element-in, Cycled, straight-at, entry-at, arc-at, exit-at, cycled, kind-at, arc-place, count-is}
 use Rattle.theorems.specs.Joints.{none-from, ahead-by}
 use Rattle.theorems.specs.Items.{EndToEnd, value-at}
+use Rattle.theorems.specs.Small.{from-rest}
 
 pub record OnElement (r : Road) (i s : ℕ) : Type 0 where
   pub place : i < length (r .plan)
@@ -234,10 +235,7 @@ module _ {r : Road} (A : Accepted r) where
       curvature-on (suc i) s o
       then same-value (element-positive (suc i) s h) (on-clothoid r (suc i) s (kind-at A 3 (suc i) h (omega arith)) ∙ q)
       then evenly-out (bend (elementOf r i .radius)) (from elementStart r (suc i) to s) (from s to elementStart r (suc (suc i))) (elementOf r (suc i) .length) (arc-positive i j e) (element-in A (suc i) h .length .low)
-      (rest (elementStart r (suc i)) s (elementOf r (suc i) .length) (elementStart r (suc (suc i))) (element-step r (suc i)))
-    where
-      rest : (a s l b : ℕ) → b ≡ a + l → (from s to b) ≡ pos l -ℤ (from a to s)
-      rest a s l b e = rw e (ring (pos a ∷ pos s ∷ pos l ∷ []) ($ 0 :+ $ 2 :- $ 1) ($ 2 :- ($ 1 :- $ 0)) tt)
+      (from-rest (elementStart r (suc i)) s (elementOf r (suc i) .length) (elementStart r (suc (suc i))) (element-step r (suc i)))
 
   -- 0 at its straight end, its arc's at the other
   start-on : (i : ℕ) → i < length (r .plan) → OnElement r i (elementStart r i)

@@ -17,7 +17,7 @@ use Rattle.road.specs.Lists.{element-step, tangent-step}
 use Rattle.road.specs.Laws.{Kept}
 use Rattle.road.specs.Positive.{Accepted, points-placed}
 use Rattle.road.specs.declared.Tangent.{Tangent}
-use Rattle.theorems.specs.Tests.{or-left, or-right, true-false}
+use Rattle.road.specs.Tests.{or-left, or-right, true-false}
 use Rattle.theorems.specs.Last.{Rising, rises-to}
 
 -- ---- where tangents and elements begin

@@ -7,20 +7,13 @@ use mathlib.Core.Bool.{Bool, true, false}
 use lib.Dec.{leb}
 use borrow.Author.Tests.{leb-true, leb-false, le-leb}
 use Rattle.road.specs.Base.{lastThat}
-pub use Rattle.theorems.specs.Tests.{true-false}
+use Rattle.road.specs.Laws.{last-yes, last-no}
+pub use Rattle.road.specs.Tests.{true-false}
 
 pub record LastAt (test : ℕ → Bool) (n i : ℕ) : Type 0 where
   pub below : i < n
   pub holds : test i ≡ true
   pub after : (j : ℕ) → i < j → j < n → test j ≡ false
-
-last-yes : (test : ℕ → Bool) (n : ℕ) → test n ≡ true → lastThat test (suc n) ≡ n
-unfolding lastThat
-last-yes test n p = rw (p, lastThat)
-
-last-no : (test : ℕ → Bool) (n : ℕ) → test n ≡ false → lastThat test (suc n) ≡ lastThat test n
-unfolding lastThat
-last-no test n p = rw (p, lastThat)
 
 -- where the first place passes
 pub last-at : (test : ℕ → Bool) (n : ℕ) → 0 < n → test 0 ≡ true → LastAt test n (lastThat test n)

@@ -1,6 +1,5 @@
 -- Laws that follow from the definitions of `road`.
 -- tools: tests, lists, sums, places, fractions
-pub mod Tests
 pub mod Members
 pub mod Ascends
 pub mod Last

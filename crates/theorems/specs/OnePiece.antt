@@ -16,7 +16,7 @@ use Rattle.road.specs.Blade.{Neighbouring, oneCurve}
 use Rattle.theorems.specs.Next.{listed-has}
 use Rattle.theorems.specs.Facts.{Facts, start-first, points-end, curve-begins}
 use Rattle.theorems.specs.Last.{Begun, begun, begun-before}
-use Rattle.theorems.specs.Tests.{true-false, and-left, and-right, and-both}
+use Rattle.road.specs.Tests.{true-false, and-left, and-right, and-both}
 use Rattle.theorems.specs.Pieces.{OnStraight, OnCurve}
 use Rattle.theorems.specs.Pieces.{on-curve, in-curve}
 use Rattle.theorems.specs.Stations.{starts-listed, ends-listed, point-listed}

@@ -15,7 +15,7 @@ use Rattle.road.specs.Exact.{tangentStart, tangentAt, total, vertexCount, verte
 use Rattle.road.specs.Rules.{halfBefore}
 use Rattle.road.specs.Laws.{first-some, first-none}
 use Rattle.road.specs.Lists.{tangent-step}
-use Rattle.theorems.specs.Tests.{true-false, and-left, and-right, and-both}
+use Rattle.road.specs.Tests.{true-false, and-left, and-right, and-both}
 use Rattle.theorems.specs.Facts.{Facts, start-first}
 use Rattle.theorems.specs.Last.{Rising, rises-to, Begun, begun, begun-upto}
 

@@ -16,7 +16,7 @@ use Rattle.decimal.specs.All.{All}
 use Rattle.road.specs.Ranged.{went, refused-not-got, field-within, signed-fits, Within, many-items, TangentRange, tangent-range}
 use Rattle.road.specs.declared.Element.{Element}
 use Rattle.road.specs.declared.Tangent.{Tangent}
-use Rattle.theorems.specs.Tests.{and-T, true-false}
+use Rattle.road.specs.Tests.{and-T, true-false}
 
 -- "for an arc a signed radius, 10,000 to 10,000,000 in size"; of what is no arc it is 0
 pub record RadiusRange (e : Element) : Type 0 where

@@ -18,7 +18,7 @@ use Rattle.road.specs.Limits.{Limits, limits}
 use Rattle.road.specs.Rules.{Rule, Verdict, passes, breaks, judge, rules, judged, under, accepted}
 use Rattle.road.specs.Laws.{FirstAt, first-some, first-none, first-clear, Kept, passes-kept, kept-passes, Broken, here, after, judge-broken}
 use Rattle.road.specs.Ranged.{went, refused-not-got, Within}
-use Rattle.theorems.specs.Tests.{and-T, true-false}
+use Rattle.road.specs.Tests.{and-T, true-false}
 
 -- ---- the search for the first item
 first-at-some : (test : ℕ → Bool) (n i : ℕ) → FirstAt test n i → firstThat test n ≡ some i

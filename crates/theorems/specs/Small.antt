@@ -1,11 +1,13 @@
 -- How large a fraction is, and the whole number it is rounded to.
 use mathlib.Core.Path.{_≡_, sym, subst}
+use mathlib.Core.List.{[], _∷_}
 use Prim.Native.Nat.{ℕ, zero, suc, _+_, _*_, _≤_, _<_}
 use native.Mathlib.Omega.{arith}
 use native.Mathlib.Decide.{decLt}
 use native.Mathlib.Nat.{div-zero, le-of-mul-le-mul-right}
 use lib.IntN.{ℤ, pos, negsuc, _+ℤ_, _-ℤ_, _*ℤ_, natAbs}
 use Rattle.integers.specs.Bridge.{int, nat, _⊖_, abs!, abs?, abs-mul, abs-sum, abs-difference, abs-product}
+use Rattle.integers.specs.Ring.{_:+_, _:-_, ring, $}
 use Rattle.integers.specs.Rounding.{floor, round, rounded, round-near}
 use Rattle.integers.specs.Fraction.{Frac, _+ᶠ_, _-ᶠ_, _×ᶠ_}
 use Rattle.road.specs.Exact.{from_to_}
@@ -16,6 +18,10 @@ Small f B = 0 < f .den → natAbs (f .num) ≤ B * f .den
 
 pub abs-from : (a s k : ℕ) → a ≤ s + k → s ≤ a + k → natAbs (from a to s) ≤ k
 abs-from a s k h g = abs! (nat s ⊖ nat a) k (omega arith) (omega arith)
+
+-- what is left of a length
+pub from-rest : (a s l b : ℕ) → b ≡ a + l → (from s to b) ≡ pos l -ℤ (from a to s)
+from-rest a s l b e = rw e (ring (pos a ∷ pos s ∷ pos l ∷ []) ($ 0 :+ $ 2 :- $ 1) ($ 2 :- ($ 1 :- $ 0)) tt)
 
 -- ---- sums, differences and products of fractions
 factors : (a b : ℕ) → 0 < a * b → (0 < a) × (0 < b)

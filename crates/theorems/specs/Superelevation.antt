@@ -24,7 +24,7 @@ use Rattle.road.specs.Rules.{eqZ, changes, meets, changesOn, inner, superelevat
 use Rattle.road.specs.Laws.{first-none, first-clear}
 use Rattle.road.specs.Lists.{element-step}
 use Rattle.road.specs.declared.Crossfall.{Crossfall}
-use Rattle.theorems.specs.Tests.{true-false, and-left, and-right, and-both, or-left, or-right, or-true}
+use Rattle.road.specs.Tests.{true-false, and-left, and-right, and-both, or-left, or-right, or-true, or-yes}
 use Rattle.theorems.specs.Facts.{Placed, placed-rise, placed-end, elements-rise}
 use Rattle.theorems.specs.Last.{rises-to, Begun, begun, begun-before}
 use Rattle.theorems.specs.Crossfalls.{by-positive, crossfall-by}
@@ -254,10 +254,6 @@ crowned-iff l radius p = (there, back)
 abbrev pub startPoint : Road → ℕ → Crossfall
 startPoint r i = pointOf r (pointAt r (elementStart r i))
 
-either : (a b : Bool) → (a || b) ≡ true → (a ≡ true) ⊎ (b ≡ true)
-either true b e = inl refl
-either false b e = inr e
-
 -- a road whose points ascend from 0 to T keeps refusal 19 at an element if and only if that is no arc, or has a constant crossfall of one of the two forms
 pub superelevation-iff : {r : Road} → Placed r → (l : Limits) (i : ℕ) → i < length (r .plan) → 0 < elementOf r i .length
     → (wrongSuperelevation l r i ≡ false)
@@ -284,7 +280,7 @@ superelevation-iff {r} P l i h long = (λ e q. there (isArc (elementOf r i)) q e
 
     there : (c : Bool) → c ≡ true → (c && (changesOn r i || not (superelevated R p || crowned l R p))) ≡ false → Constant r i × (Superelevated R p ⊎ Crowned l R p)
     there true q e =
-        (steady .0 (or-left (changesOn r i) (not (superelevated R p || crowned l R p)) e), form (either (superelevated R p) (crowned l R p) (not-false (superelevated R p || crowned l R p) (or-right (changesOn r i) (not (superelevated R p || crowned l R p)) e))))
+        (steady .0 (or-left (changesOn r i) (not (superelevated R p || crowned l R p)) e), form (or-yes (superelevated R p) (crowned l R p) (not-false (superelevated R p || crowned l R p) (or-right (changesOn r i) (not (superelevated R p || crowned l R p)) e))))
     there false q e = absurd (true-false false q refl)
 
     back : (c : Bool) → isArc (elementOf r i) ≡ c → (isArc (elementOf r i) ≡ true → Constant r i × (Superelevated R p ⊎ Crowned l R p)) → (c && (changesOn r i || not (superelevated R p || crowned l R p))) ≡ false

@@ -6,7 +6,7 @@ use native.Mathlib.Omega.{arith}
 use lib.ListN.{length, getD}
 use lib.Dec.{T, leb, ltb, leb→le, ltb→lt}
 use Rattle.road.specs.File.{Road}
-use Rattle.theorems.specs.Tests.{and-T}
+use Rattle.road.specs.Tests.{and-T}
 use Rattle.road.specs.Limits.{Limits, speeds, speed, table, limitsIn, limitsAt, limits}
 
 abbrev all : {A : Type 0} → (A → Bool) → List A → Bool

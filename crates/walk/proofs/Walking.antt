@@ -11,7 +11,7 @@ use Rattle.road.specs.File.{Road}
 use Rattle.road.specs.Exact.{total}
 use Rattle.road.specs.Listed.{multiples, listed}
 use Rattle.road.specs.Line.{line}
-use Rattle.theorems.specs.Ascends.{Ascends, empty, step, ascends-one}
+use Rattle.theorems.specs.Ascends.{Ascends, empty, step, ascends-one, ascends-low}
 use Rattle.theorems.specs.Guaranteed.{Guaranteed}
 use Rattle.theorems.specs.Fits.{line-fits}
 use Rattle.stretch.specs.Stretch.{lineIn}
@@ -19,7 +19,7 @@ use Rattle.stretch.specs.Line.{line-shows}
 use Rattle.places.specs.View.{Viewed, multiple-listed}
 use Rattle.places.specs.declared.View.{View}
 use Rattle.walk.specs.Rows.{notBelow, Part, before, rowsThatFit}
-use Rattle.walk.specs.NotBelow.{from-has, from-member, from-all, from-append, from-from, from-ascends, ascends-low}
+use Rattle.walk.specs.NotBelow.{from-has, from-member, from-all, from-append, from-from, from-ascends}
 use Rattle.walk.specs.Parts.{firstOr, Stopped, fit-row, fit-append, fit-room, fit-same, fit-stops}
 use Rattle.walk.specs.Inside.{listed-ascends}
 use Rattle.walk.specs.Stretches.{Stepped, stretchStations, Answers}

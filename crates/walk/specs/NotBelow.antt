@@ -6,7 +6,7 @@ use Prim.Native.Nat.{ℕ, suc, _≤_, _<_}
 use native.Mathlib.Omega.{arith}
 use native.Mathlib.Decide.{decLe}
 use borrow.Author.Tests.{le-leb, lt-leb}
-use Rattle.theorems.specs.Ascends.{Ascends, empty, step}
+use Rattle.theorems.specs.Ascends.{Ascends, empty, step, ascends-low}
 use Rattle.walk.specs.Rows.{notBelow}
 
 pub kept : (s x : ℕ) (xs : List ℕ) → s ≤ x → notBelow s (x ∷ xs) ≡ x ∷ notBelow s xs
@@ -92,14 +92,6 @@ from-from s t (x ∷ xs) h = go (decLe s x) (decLe t x) (from-from s t xs h)
     go (no k) l ih = rw (dropped s x xs (omega arith), dropped t x xs (omega arith)) ih
 
 -- ---- of an ascending list
-pub ascends-low : {s : ℕ} {l : List ℕ} {z : ℕ} → Ascends s l → List·Memᴰ z l → s ≤ z
-ascends-low empty m = absurd (List·Memᴰ·not-nil m)
-ascends-low {s} {z = z} (step {x = x} {xs = xs} h a) m = go (List·Memᴰ·cases-cons m) (λ n. ascends-low a n)
-  where
-    go : (z ≡ x) ⊎ List·Memᴰ z xs → (List·Memᴰ z xs → suc x ≤ z) → s ≤ z
-    go (inl e) ih = omega arith
-    go (inr n) ih = let k = ih n in omega arith
-
 pub from-ascends : {k : ℕ} (s : ℕ) {l : List ℕ} → Ascends k l → Ascends s (notBelow s l)
 unfolding notBelow
 from-ascends s empty = empty

@@ -8,9 +8,9 @@ use native.Mathlib.Nat.{sub-zero}
 use borrow.Author.Tests.{le-leb, lt-leb}
 use lib.ListN.{length, length-append}
 use Rattle.road.specs.Base.{joined}
-use Rattle.theorems.specs.Ascends.{Ascends, empty, step}
+use Rattle.theorems.specs.Ascends.{Ascends, empty, step, ascends-low}
 use Rattle.walk.specs.Rows.{notBelow, Part, before, nothing, rowsThatFit}
-use Rattle.walk.specs.NotBelow.{kept, dropped, from-all, ascends-low}
+use Rattle.walk.specs.NotBelow.{kept, dropped, from-all}
 
 pub before-before : (t u : List ℕ) (p : Part) → before t (before u p) ≡ before (t ++ u) p
 before-before t u p = ap (λ (x : List ℕ). record { text = x; left = p .left }) (sym (append-assoc t u (p .text)))

@@ -16,4 +16,4 @@ element-fails-spec =
     (λ c. let h : c .before .before .args .rule ≡ 10 = c .before .match .keys4 in rw h (c .is-tight-arc .ensures))
     (λ c. let h : c .before .before .args .rule ≡ 11 = c .before .match .keys5 in rw h (c .is-short-arc .ensures))
     (λ c. let rule = c .before .before .args .rule in let r = c .before .match .rest in
-        rw (ne-eqb rule 5 (r .0 .0 .0 .0 .1), ne-eqb rule 7 (r .0 .0 .0 .1), ne-eqb rule 8 (r .0 .0 .1), ne-eqb rule 10 (r .0 .1), ne-eqb rule 11 (r .1)) (c .is-short-clothoid .ensures)))
+    rw (ne-eqb rule 5 (r .0 .0 .0 .0 .1), ne-eqb rule 7 (r .0 .0 .0 .1), ne-eqb rule 8 (r .0 .0 .1), ne-eqb rule 10 (r .0 .1), ne-eqb rule 11 (r .1)) (c .is-short-clothoid .ensures)))

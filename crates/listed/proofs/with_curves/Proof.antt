@@ -1,12 +1,11 @@
-use mathlib.Core.Path.{refl, ap, ap₂, _∙_}
+use mathlib.Core.Path.{ap, ap₂, _∙_}
 use Prim.Native.Nat.{ℕ, _+_, _-_, _≤_, _<_}
 use native.Mathlib.Omega.{arith}
 use native.Mathlib.Numerals.{add-one}
 use borrow.Author.Needs.{needs}
-use Rattle.road.specs.Base.{sumOf}
 use Rattle.road.specs.Exact.{tangentStart}
 use Rattle.road.specs.Held.{roadIn}
-use Rattle.road.specs.Lists.{unmapped, tangent-item, tangent-count, Sums, sums-start, tangent-sums}
+use Rattle.road.specs.Lists.{unmapped, tangent-item, tangent-count, Sums, tangent-sums-start, tangent-sums}
 use Rattle.road.specs.Listed.{curveStations}
 use Rattle.road.specs.declared.Tangent.{Tangent}
 use Rattle.listed.specs.Least.{asOption, leastWith, curveEnds}
@@ -22,8 +21,7 @@ abbrev μ-loop : tie.MeasureT-loop
 μ-loop s a n found₀ vertex₀ i₀ found vertex i = n - i
 
 loop-holds : tie.Need-loop-holds Inv-loop μ-loop
-unfolding tangentStart sumOf
-loop-holds c = let h = c .pre .profile in (h, sums-start (omega arith) refl, counting-starts _ _ _ _)
+loop-holds c = (c .pre .profile, tangent-sums-start (c .args .t1) (c .pre), counting-starts _ _ _ _)
 
 loop-again : tie.Need-loop-again Inv-loop μ-loop
 unfolding curveStations

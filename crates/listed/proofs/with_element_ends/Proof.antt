@@ -1,14 +1,14 @@
-use mathlib.Core.Path.{refl, sym, ap, _∙_}
+use mathlib.Core.Path.{_≡_, sym, ap, _∙_}
 use mathlib.Core.List.{_∷_, [], List}
 use Prim.Native.Nat.{ℕ, suc, _-_, _≤_}
 use native.Mathlib.Omega.{arith}
 use native.Mathlib.Numerals.{add-one}
 use borrow.Author.Needs.{needs}
 use lib.ListN.{length}
-use Rattle.road.specs.Base.{sumOf, countFrom}
-use Rattle.road.specs.Exact.{elementStart, total}
+use Rattle.road.specs.Base.{countFrom}
+use Rattle.road.specs.Exact.{elementStart}
 use Rattle.road.specs.Held.{roadIn}
-use Rattle.road.specs.Lists.{unmapped, plan-count, Sums, sums-start, sums-end, element-sums}
+use Rattle.road.specs.Lists.{unmapped, plan-count, Sums, element-sums-start, element-sums, element-sums-end}
 use Rattle.road.specs.Listed.{counted, elementEnds}
 use Rattle.listed.specs.Least.{asOption, leastWith}
 use Rattle.listed.specs.Counting.{Counting, counting-starts, counting-turn, counting-ends, map-joined}
@@ -23,8 +23,7 @@ abbrev μ-loop : tie.MeasureT-loop
 μ-loop s a n found₀ end₀ i₀ found end i = n - i
 
 loop-holds : tie.Need-loop-holds Inv-loop μ-loop
-unfolding elementStart sumOf
-loop-holds c = let h = c .pre .plan in (h, sums-start (omega arith) refl, counting-starts _ _ _ _)
+loop-holds c = (c .pre .plan, element-sums-start (c .args .t1) (c .pre), counting-starts _ _ _ _)
 
 loop-again : tie.Need-loop-again Inv-loop μ-loop
 unfolding leastWith
@@ -37,15 +36,15 @@ loop-again c =
     (v .inv .0, sums, counting-turn _ _ _ (v .inv .2) here (c .with-station .ensures ∙ ap (λ (x : ℕ). counted (s .s) x (asOption (v .found))) end))
 
 returns : tie.Need-returns Inv-loop μ-loop
-unfolding total elementEnds
+unfolding elementEnds
 returns c =
     let v = c .before .loop in
     let s = c .before .before in
     let r = roadIn (s .args .t1) in
-    let m = plan-count (s .args .t1) (s .pre) (search (needs, unmapped)) in
+    let long : length (s .args .t1 .elements) ≡ 200 = search (needs, unmapped) in
     let over = c .loop-test .left in
-    let least = counting-ends _ _ _ (v .inv .2) over m ∙ ap (λ (l : List ℕ). leastWith (s .args .s) l (asOption (s .args .least))) (sym (map-joined (λ k. elementStart r (suc k)) (countFrom 0 (length (r .plan))))) in
-    (least, (sums-end (v .inv .1) m over, search needs))
+    let least = counting-ends _ _ _ (v .inv .2) over (plan-count (s .args .t1) (s .pre) long) ∙ ap (λ (l : List ℕ). leastWith (s .args .s) l (asOption (s .args .least))) (sym (map-joined (λ k. elementStart r (suc k)) (countFrom 0 (length (r .plan))))) in
+    (least, (element-sums-end (s .args .t1) (s .pre) (v .inv .1) over long, search needs))
 
 pub with-element-ends-spec : {M : Type 1} → statement M
 with-element-ends-spec =

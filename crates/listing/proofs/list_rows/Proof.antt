@@ -1,6 +1,4 @@
-use mathlib.Core.Path.{_∙_}
 use borrow.Author.Needs.{needs}
-use denote.Ref.{now}
 use Rattle.acceptance.specs.Acceptance.{taken}
 use Rattle.stationing.specs.Routines.{ready}
 use Rattle.listing.specs.Chunks.{list-accepted, list-refused}
@@ -8,22 +6,15 @@ use Rattle.listing.proofs.list_rows.Statement.{statement}
 use Rattle.listing.proofs.list_rows.Tie as tie
 
 put-rows-requires : tie.Need-put-rows-requires
-put-rows-requires c κs =
-    let r = c .before .before .before .before .accept in
-    ready (now (c .before .before .before .before .before .before .before .args .file)) (r .result .alignment) _ (taken (r .result .alignment) (c .before .enum-told .given .1) (r .ensures .0)) (r .ensures .1)
+put-rows-requires c κs = let r = c .before .before .before .before .accept in ready _ (r .result .alignment) _ (taken (r .result .alignment) (c .before .enum-told .given .1) (r .ensures .0)) (r .ensures .1)
 
 returns : tie.Need-returns
-returns c =
-    let r = c .before .before .before .before .accept in
-    let s = c .before .before .before .before .before .before .before .args in
-    list-refused (now (s .file)) (s .station) (now (s .out)) _ _ (taken (r .result .alignment) (c .before .outcome .given .1) (r .ensures .0))
+returns c = let r = c .before .before .before .before .accept in list-refused _ _ _ _ _ (taken (r .result .alignment) (c .before .outcome .given .1) (r .ensures .0))
 
 returns-2 : tie.Need-returns-2
 returns-2 c =
     let r = c .before .before .before .before .before .before .before .accept in
-    let s = c .before .before .before .before .before .before .before .before .before .before .args in
-    let g = list-accepted (now (s .file)) (s .station) (now (s .out)) _ _ (taken (r .result .alignment) (c .before .before .before .before .enum-told .given .1) (r .ensures .0)) in
-    (c .before .before .put-rows .ensures .0 ∙ g .0, c .before .before .put-rows .ensures .1 ∙ g .1)
+    list-accepted _ _ _ _ _ (taken (r .result .alignment) (c .before .before .before .before .enum-told .given .1) (r .ensures .0)) (c .before .before .put-rows .ensures)
 
 pub list-rows-spec : {M : Type 1} → statement M
 list-rows-spec = tie.close (tie.spec (λ c _. search needs) (λ c. search needs) (λ c. search needs) put-rows-requires returns (λ c. search needs) returns-2)

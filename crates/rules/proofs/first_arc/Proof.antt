@@ -1,19 +1,19 @@
-use mathlib.Core.Path.{_≡_, refl, sym, ap, _∙_}
+use mathlib.Core.Path.{_≡_, sym, ap, _∙_}
 use Prim.Native.Nat.{ℕ, suc, _+_, _-_, _<_, _≤_}
 use native.Mathlib.Omega.{arith}
 use native.Mathlib.Numerals.{add-one}
 use borrow.Author.Needs.{needs}
 use borrow.Author.Tests.{ltb-true, leb-true, leb-false, lt-ltb}
 use lib.ListN.{length, getD}
-use Rattle.road.specs.Base.{sumOf}
 use Rattle.road.specs.Exact.{blankElement, blankCrossfall, pointOf, elementStart}
 use Rattle.road.specs.Rules.{wrongSuperelevation}
 use Rattle.road.specs.Held.{roadIn}
-use Rattle.road.specs.Lists.{unmapped, item-or, element-item, point-item, plan-count, point-count, Sums, sums-start, element-sums}
+use Rattle.road.specs.Lists.{unmapped, item-or, element-item, point-item, plan-count, point-count, Sums, element-sums-start, element-sums}
+use Rattle.road.specs.Tests.{and-yes, and-no-then}
 use Rattle.road.specs.declared.Crossfall.{Crossfall}
 use Rattle.limits.specs.Row.{asLimits}
 use Rattle.rules.proofs.Search.{Passed, start, found, on, nothing}
-use Rattle.rules.proofs.Arcs.{Merged, merged-start, next-pair, next-element, passed, fails, pairTest, arc-test, and-yes, and-no-then}
+use Rattle.rules.proofs.Arcs.{Merged, merged-start, next-pair, next-element, passed, fails, pairTest, arc-test}
 use Rattle.rules.proofs.first_arc.Statement.{statement}
 use Rattle.rules.proofs.first_arc.Tie as tie
 
@@ -35,14 +35,12 @@ points : (c : tie.Start Inv-loop μ-loop) → length (roadIn (c .args .t1) .cros
 points c = point-count (c .args .t1) (c .pre .0) (search (needs, unmapped))
 
 loop-holds : tie.Need-loop-holds Inv-loop μ-loop
-unfolding elementStart sumOf
 loop-holds c =
     let s = c .before .before in
     let a = s .args .t1 in
     let p = item-or (a .crossfalls) (a .«crossfall_count») 0 blankCrossfall (c .before .if1 .came) (λ w. (w .0 .taken, w .2)) (λ w. (w .0 .left, w .1)) in
     let q = item-or (a .crossfalls) (a .«crossfall_count») 1 blankCrossfall (c .if2 .came) (λ w. (w .0 .taken, w .2)) (λ w. (w .0 .left, w .1)) in
-    let few = s .pre .0 .plan in
-    (s .pre .0 .points, omega arith, p, q, sums-start (omega arith) refl, merged-start (asLimits (s .args .l)) (roadIn a) (s .pre .1), start)
+    (s .pre .0 .points, omega arith, p, q, element-sums-start a (s .pre .0), merged-start (asLimits (s .args .l)) (roadIn a) (s .pre .1), start)
 
 high : (c : tie.After-arc-fails Inv-loop μ-loop) → Sums (elementStart (roadIn (c .before .before .before .before .before .before .before .args .t1))) (c .before .before .before .before .before .before .before .args .t1 .«element_count») (c .before .before .before .before .loop .i + 1) (c .before .before .before .before .loop .low + lengthOf (c .before .before .before .before .before .before .before) (c .before .before .before .before .loop .i))
 high c =

@@ -1,5 +1,5 @@
-use mathlib.Core.Path.{_≡_, refl, sym, ap, ap₂, _∙_}
-use Prim.Native.Nat.{suc, _+_, _-_, _≤_}
+use mathlib.Core.Path.{_≡_, refl, sym, ap₂, _∙_}
+use Prim.Native.Nat.{suc, _+_, _-_}
 use native.Mathlib.Omega.{arith}
 use native.Mathlib.Numerals.{add-one}
 use borrow.Author.Needs.{needs}
@@ -11,14 +11,13 @@ use Rattle.road.specs.Lists.{unmapped, point-item, point-count, next-or}
 use Rattle.road.specs.declared.Alignment.{Alignment}
 use Rattle.limits.specs.Row.{asLimits}
 use Rattle.rules.specs.Judged.{pointBroken}
-use Rattle.rules.proofs.Search.{Passed, start, found, on, nothing}
+use Rattle.rules.proofs.Search.{start, nothing, Looking, looking-found, looking-on}
 use Rattle.rules.proofs.Items.{pointBefore, point-test}
 use Rattle.rules.proofs.first_point.Statement.{statement}
 use Rattle.rules.proofs.first_point.Tie as tie
 
 abbrev Inv-loop : tie.InvT-loop
-Inv-loop l rule places end a n ramp blank back₀ place₀ back place =
-    (places ≤ n) × (n ≤ 200) × (back ≡ pointBefore (roadIn a) place) × Passed (pointBroken rule (asLimits l) (roadIn a)) places place
+Inv-loop l rule places end a n ramp blank back₀ place₀ back place = Looking (pointBefore (roadIn a)) (pointBroken rule (asLimits l) (roadIn a)) 200 n places place back
 
 abbrev μ-loop : tie.MeasureT-loop
 μ-loop l rule places end a n ramp blank back₀ place₀ back place = places - place
@@ -27,7 +26,7 @@ long : (c : tie.Start Inv-loop μ-loop) → length (c .args .t1 .crossfalls) ≡
 long c = search (needs, unmapped)
 
 loop-holds : tie.Need-loop-holds Inv-loop μ-loop
-loop-holds c = let h = c .pre in (h .1 .0, h .0 .points, refl, start)
+loop-holds c = let h = c .pre in record { few = h .1 .0; room = h .0 .points; behind = refl; passed = start }
 
 -- the item is that of the road's list, and its test is the rule
 module _ (c : tie.After-point-fails Inv-loop μ-loop) where
@@ -38,7 +37,7 @@ module _ (c : tie.After-point-fails Inv-loop μ-loop) where
   a = at .before .args .t1
 
   here : getD (a .crossfalls) (at .loop .place) blankCrossfall ≡ pointOf (roadIn a) (at .loop .place)
-  here = point-item a (at .loop .place) (let t = c .before .before .before .loop-test .taken in let h = at .loop .inv .0 in omega arith)
+  here = point-item a (at .loop .place) (let t = c .before .before .before .loop-test .taken in let h = at .loop .inv .few in omega arith)
 
   last : eqb (at .loop .place + 1) (a .«crossfall_count») ≡ eqb (suc (at .loop .place)) (length (roadIn a .crossfalls))
   last = ap₂ eqb (add-one (at .loop .place)) (sym (point-count a (at .before .pre .0) (long (at .before))))
@@ -46,22 +45,12 @@ module _ (c : tie.After-point-fails Inv-loop μ-loop) where
   test : c .point-fails .result ≡ pointBroken (at .before .args .rule) (asLimits (at .before .args .l)) (roadIn a) (at .loop .place)
   test =
       let next = next-or (a .crossfalls) (a .«crossfall_count») (at .loop .place) blankCrossfall (c .before .if1 .came) (λ w. (w .0 .taken, w .2)) (λ w. (w .0 .left, w .1)) in
-      c .point-fails .ensures ∙ point-test (at .before .args .rule) (at .before .args .l) (roadIn a) (at .loop .place) last (at .before .pre .1 .1) (at .loop .inv .2) here next
-
-returns : tie.Need-returns Inv-loop μ-loop
-returns c = found (at (c .before) .loop .inv .3) (c .before .before .before .before .loop-test .taken) (sym (test (c .before)) ∙ c .if2 .taken)
-
-loop-again : tie.Need-loop-again Inv-loop μ-loop
-loop-again c =
-    let d = c .before in
-    let v = at d .loop in
-    (v .inv .0, v .inv .1, here d ∙ ap (pointBefore (roadIn (a d))) (sym (add-one (v .place))), on (v .inv .3) (d .before .before .before .loop-test .taken) (sym (test d) ∙ c .if2 .left))
-
-returns-2 : tie.Need-returns-2 Inv-loop μ-loop
-returns-2 c = nothing (c .before .loop .inv .3) (c .loop-test .left)
+      c .point-fails .ensures ∙ point-test (at .before .args .rule) (at .before .args .l) (roadIn a) (at .loop .place) last (at .before .pre .1 .1) (at .loop .inv .behind) here next
 
 pub first-point-spec : {M : Type 1} → statement M
 first-point-spec =
     tie.close
-    (tie.spec Inv-loop μ-loop loop-holds (λ c. search needs) (λ c. search needs) (λ c. search needs) (λ c. search needs) (λ c. search needs) (λ c. search needs) (λ c. search needs)
-    (λ c _. search needs) returns (λ c. search needs) (λ c. search needs) loop-again returns-2)
+    (tie.spec Inv-loop μ-loop loop-holds (λ c. search needs) (λ c. search needs) (λ c. search needs) (λ c. search needs) (λ c. search needs) (λ c. search needs) (λ c. search needs) (λ c _. search needs)
+    (λ c. let d = c .before in looking-found (at d .loop .inv) (d .before .before .before .loop-test .taken) (test d) (c .if2 .taken)) (λ c. search needs) (λ c. search needs)
+    (λ c. let d = c .before in looking-on (at d .loop .inv) (d .before .before .before .loop-test .taken) (here d) (test d) (c .if2 .left))
+    (λ c. nothing (c .before .loop .inv .passed) (c .loop-test .left)))

@@ -5,11 +5,12 @@ use native.Mathlib.Nat.{div-le-self}
 use lib.ListN.{length}
 use Rattle.stretch.specs.Stretch.{lineIn}
 use Rattle.walk.specs.Rows.{notBelow, rowsThatFit}
-use Rattle.walk.specs.NotBelow.{from-all, ascends-low}
+use Rattle.walk.specs.NotBelow.{from-all}
 use Rattle.walk.specs.Parts.{firstOr, fit-none, fit-full}
 use Rattle.walk.specs.Stretches.{Stepped, stretchStations}
 use Rattle.walk.proofs.Going.{Going, going-starts, going-length, going-row, going-text, going-left}
 use Rattle.walk.proofs.Steps.{AtStation, NextMultiple, multiple-first, station-first, station-next, left-next, none-beyond, stretch-ascends}
+use Rattle.theorems.specs.Ascends.{ascends-low}
 use Rattle.walk.proofs.put_stretch.Statement.{statement}
 use Rattle.walk.proofs.put_stretch.Tie as tie
 

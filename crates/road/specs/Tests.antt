@@ -1,5 +1,6 @@
 -- Tests joined by "and" and "or".
 use mathlib.Core.Path.{_≡_, refl}
+use mathlib.Core.Logic.{_⊎_, inl, inr}
 use mathlib.Core.Bool.{Bool, true, false, _&&_, _||_}
 use Prim.Native.Nat.{ℕ}
 use native.Mathlib.Omega.{arith}
@@ -30,6 +31,20 @@ or-left false b e = refl
 pub or-right : (a b : Bool) → (a || b) ≡ false → b ≡ false
 or-right true b e = absurd (true-false true refl e)
 or-right false b e = e
+
+pub and-yes : (a b : Bool) → (a && b) ≡ true → (a ≡ true) × (b ≡ true)
+and-yes a b e = (and-left a b e, and-right a b e)
+
+pub and-no-then : (a b : Bool) → (a && b) ≡ false → a ≡ true → b ≡ false
+and-no-then true b e h = e
+and-no-then false b e h = absurd (true-false false h refl)
+
+pub or-no : (a b : Bool) → (a || b) ≡ false → (a ≡ false) × (b ≡ false)
+or-no a b e = (or-left a b e, or-right a b e)
+
+pub or-yes : (a b : Bool) → (a || b) ≡ true → (a ≡ true) ⊎ (b ≡ true)
+or-yes true b e = inl refl
+or-yes false b e = inr e
 
 pub or-true : (a : Bool) → (a || true) ≡ true
 or-true true = refl
