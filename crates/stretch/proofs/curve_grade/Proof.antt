@@ -3,7 +3,7 @@ use lib.IntN.{pos, _+ℤ_, _*ℤ_}
 use mir.Syntax.{w64}
 use mir.Val.{SFits}
 use mir.Facts.{toZ-ofZ}
-use Rattle.stretch.proofs.Laws.{double-fits, first-fits, grade-along, double-low, grade-answer}
+use Rattle.stretch.proofs.Laws.{double-fits, first-fits, grade-along, grade-rounds, grade-answer}
 use Rattle.stretch.proofs.curve_grade.Statement.{statement}
 use Rattle.stretch.proofs.curve_grade.Tie as tie
 
@@ -27,7 +27,7 @@ module _ (c : tie.After-along) where
   over-is = simp (toZ-ofZ, s .fits .grade, s .fits .half, s .fits .change, s .fits .u, double-fits (s .pre), first-fits (s .pre)) at (c .along .ensures)
 
 round-div-requires : tie.Need-round-div-requires
-round-div-requires c κs = let s = c .before in simp (toZ-ofZ, s .fits .half, double-fits (s .pre)) (double-low (s .pre))
+round-div-requires c κs = let s = c .before in simp (toZ-ofZ, over-fits c, s .fits .half, double-fits (s .pre)) (grade-rounds (s .pre) (over-is c))
 
 returns : tie.Need-returns
 returns c = let b = c .before in let s = b .before in

@@ -1,7 +1,7 @@
 use mir.Syntax.{w64}
 use mir.Val.{SFits}
 use mir.Facts.{toZ-ofZ}
-use Rattle.stretch.proofs.Laws.{wide-fits, long-fits, long-low, drop-answer}
+use Rattle.stretch.proofs.Laws.{wide-fits, long-fits, drop-rounds, drop-answer}
 use Rattle.stretch.proofs.drop_of.Statement.{statement}
 use Rattle.stretch.proofs.drop_of.Tie as tie
 
@@ -12,7 +12,7 @@ mul-round-div-2 : tie.Need-mul-round-div-2
 mul-round-div-2 c = simp (toZ-ofZ, c .fits .span) (long-fits (c .pre))
 
 round-div-requires : tie.Need-round-div-requires
-round-div-requires c κs = simp (toZ-ofZ, c .fits .span, long-fits (c .pre)) (long-low (c .pre))
+round-div-requires c κs = simp (toZ-ofZ, c .fits .over, c .fits .width, c .fits .span, wide-fits (c .pre), long-fits (c .pre)) (drop-rounds (c .pre))
 
 returns : tie.Need-returns
 returns c = let s = c .before in

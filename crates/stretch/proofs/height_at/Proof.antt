@@ -1,5 +1,4 @@
 use mathlib.Core.Path.{_≡_}
-use borrow.Author.Needs.{needs}
 use mir.Syntax.{w64}
 use mir.Val.{SFits}
 use mir.Facts.{toZ-ofZ}
@@ -34,6 +33,9 @@ module _ (c : tie.After-distance) where
   u-is : c .distance .result ≡ past (start line .args .s .from) (start line .args .x)
   u-is = simp (toZ-ofZ, f.from-fits (start line .pre)) at (c .distance .ensures)
 
+round-div-requires : tie.Need-round-div-requires
+round-div-requires c κs = let a = c .before .before .before in simp (toZ-ofZ, line-fits a) (f.height-rounds (start a .pre) (line-is a))
+
 curve-height-requires : tie.Need-curve-height-requires
 curve-height-requires c κs = let d = c .before .before in let a = line d in let p = start a .pre in
     simp (toZ-ofZ, line-fits a, f.change-fits p, f.half-fits p, u-fits d) (f.height-curve p (u-is d) (line-is a) (d .before .before .if1 .left))
@@ -50,4 +52,4 @@ returns-2 c = let d = c .before .before .before in let a = line d in let p = sta
     (simp (toZ-ofZ, line-fits a, f.change-fits p, f.half-fits p, u-fits d) at (c .curve-height .ensures)))
 
 pub height-at-spec : {M : Type 1} → statement M
-height-at-spec = tie.close (tie.spec line-at-requires (λ c _. search needs) distance-requires curve-height-requires returns returns-2)
+height-at-spec = tie.close (tie.spec line-at-requires round-div-requires distance-requires curve-height-requires returns returns-2)

@@ -1,15 +1,17 @@
 use mathlib.Core.Path.{_≡_}
-use borrow.Author.Needs.{needs}
 use lib.IntN.{_+ℤ_, _*ℤ_}
 use mir.Syntax.{w64}
 use mir.Val.{SFits}
 use mir.Facts.{toZ-ofZ}
-use Rattle.stretch.proofs.Laws.{is-zero, even-fits, even-answer, start-fits, side-along, side-lane, side-answer}
+use Rattle.stretch.proofs.Laws.{is-zero, even-fits, even-rounds, even-answer, start-fits, side-along, side-lane, side-rounds, side-answer}
 use Rattle.stretch.proofs.lane_at.Statement.{statement}
 use Rattle.stretch.proofs.lane_at.Tie as tie
 
 mul-round-div : tie.Need-mul-round-div
 mul-round-div c = let s = c .before in simp (toZ-ofZ, s .fits .start, s .fits .width) (even-fits (s .pre))
+
+round-div-requires : tie.Need-round-div-requires
+round-div-requires c κs = let s = c .before in simp (toZ-ofZ, s .fits .start, s .fits .width, even-fits (s .pre)) (even-rounds (s .pre))
 
 returns : tie.Need-returns
 returns c = let s = c .before .before in
@@ -35,7 +37,7 @@ module _ (c : tie.After-along) where
   over-is = simp (toZ-ofZ, s .fits .start, s .fits .span, s .fits .change, s .fits .distance, start-fits (s .pre)) at (c .along .ensures)
 
 round-div-requires-2 : tie.Need-round-div-requires-2
-round-div-requires-2 c κs = let s = s c in simp (toZ-ofZ, s .fits .span) (s .pre .span-low)
+round-div-requires-2 c κs = let s = s c in simp (toZ-ofZ, over-fits c, s .fits .span) (side-rounds (s .pre) (over-is c))
 
 drop-of-requires : tie.Need-drop-of-requires
 drop-of-requires c κs = let b = c .before in let s = s b in simp (toZ-ofZ, over-fits b, s .fits .span, s .fits .width) (side-lane (s .pre) (over-is b))
@@ -49,4 +51,4 @@ returns-2 c = let b = c .before .before in let s = s b in
     (simp (toZ-ofZ, over-fits b, s .fits .span, s .fits .width) at (c .drop-of .ensures)))
 
 pub lane-at-spec : {M : Type 1} → statement M
-lane-at-spec = tie.close (tie.spec mul-round-div (λ c _. search needs) returns mul-along along-requires round-div-requires-2 drop-of-requires returns-2)
+lane-at-spec = tie.close (tie.spec mul-round-div round-div-requires returns mul-along along-requires round-div-requires-2 drop-of-requires returns-2)
