@@ -1,0 +1,126 @@
+-- The numbers of a call say its answer: no refusal has the number 0, and no station is the mark for none.
+use mathlib.Core.Path.{_≡_, refl, sym, ap, _∙_}
+use mathlib.Core.Bool.{Bool, true, false}
+use mathlib.Core.List.{List}
+use mathlib.Core.Logic.{_⊎_, inl, inr}
+use mathlib.Core.Option.{Option}
+use Prim.Native.Nat.{ℕ, zero, suc, _≤_, _<_}
+use native.Mathlib.Omega.{arith}
+use borrow.Author.Tests.{ne-eqb}
+use lib.Dec.{ltb, eqb}
+use lib.ListN.{length}
+use Rattle.number.specs.Reading.{Got, got, refused}
+use Rattle.road.specs.Base.{if_then_else_}
+use Rattle.road.specs.File.{Road, read}
+use Rattle.road.specs.Exact.{total}
+use Rattle.road.specs.Line.{line}
+use Rattle.road.specs.Listed.{nextListed, stations}
+use Rattle.road.specs.Limits.{limits}
+use Rattle.road.specs.Rules.{accepted}
+use Rattle.road.specs.Machine.{Answer, refusal, wrote, station, noStation, rowOn, rowAnswer, stationOr, nextOn, nextAnswer}
+use Rattle.theorems.specs.Guaranteed.{Guaranteed, guaranteed}
+use Rattle.theorems.specs.Next.{Least, least, nothing, next-least, listed-has}
+use Rattle.theorems.specs.Refusals.{ByRule, refused-iff, read-number, rule-number}
+use Rattle.walk.specs.Rows.{chunk, onward, answer}
+use Rattle.walk.specs.Inside.{listed-inside}
+use Rattle.walk.specs.Whole.{onward-listed}
+use Rattle.walk.specs.declared.Chunk.{Chunk}
+use Rattle.walk.specs.declared.Onward.{Onward}
+use Rattle.walk.specs.declared.Onward.the-variants as onwards
+use Rattle.listing.specs.Chunks.{Listed, turnedAway, part, listOn, listAnswer}
+use Rattle.voardusk.specs.Codes.{none, numberOf, answerOf, numberIn, answerIn, nextIn, goesOn}
+
+-- ---- what a caller reads from the numbers
+abbrev pub rowSaid : (number answer : ℕ) → Answer
+rowSaid zero n = wrote n
+rowSaid (suc k) p = refusal (suc k) p
+
+abbrev pub nextSaid : (number answer : ℕ) → Answer
+nextSaid zero s = if eqb s none then noStation else station s
+nextSaid (suc k) p = refusal (suc k) p
+
+abbrev pub listSaid : (number answer next : ℕ) → Listed
+listSaid zero n s = part (record { bytes = n; next = if eqb s none then onwards.Done else onwards.From s })
+listSaid (suc k) p s = turnedAway (suc k) p
+
+-- ---- it is the answer
+-- a refused file's number is 1 or more
+number-above : (f : List ℕ) (n p : ℕ) → accepted f ≡ refused n p → 1 ≤ n
+number-above f n p e = go (refused-iff f n p .0 e)
+  where
+    go : (read f ≡ refused n p) ⊎ ByRule f n p → 1 ≤ n
+    go (inl r) = read-number f n p r .low
+    go (inr b) = omega (arith, rule-number (limits (b .road)) (b .road) (b .lowest))
+
+row-refusal : (n p : ℕ) → 1 ≤ n → rowSaid n p ≡ refusal n p
+row-refusal zero p h = absurd (omega arith)
+row-refusal (suc k) p h = refl
+
+next-refusal : (n p : ℕ) → 1 ≤ n → nextSaid n p ≡ refusal n p
+next-refusal zero p h = absurd (omega arith)
+next-refusal (suc k) p h = refl
+
+list-refusal : (n p s : ℕ) → 1 ≤ n → listSaid n p s ≡ turnedAway n p
+list-refusal zero p s h = absurd (omega arith)
+list-refusal (suc k) p s h = refl
+
+-- a station of a road is not the mark
+not-mark : (s : ℕ) → s ≤ 100000000 → eqb s none ≡ false
+not-mark s h = ne-eqb s none (λ e. omega arith)
+
+-- the numbers of an answer, read
+abbrev RowBack : Answer → Type 0
+RowBack a = rowSaid (numberOf a) (answerOf a) ≡ a
+
+abbrev NextBack : Answer → Type 0
+NextBack a = nextSaid (numberOf a) (answerOf a) ≡ a
+
+abbrev ListBack : Listed → Type 0
+ListBack a = listSaid (numberIn a) (answerIn a) (nextIn a) ≡ a
+
+pub row-read-back : (f : List ℕ) (s room : ℕ) → RowBack (rowAnswer f s room)
+unfolding rowAnswer
+row-read-back f s room = go (accepted f) refl
+  where
+    by : (n : ℕ) (short beyond : Bool) → RowBack (if short then refusal 20 0 else if beyond then refusal 21 0 else wrote n)
+    by n true beyond = refl
+    by n false true = refl
+    by n false false = refl
+
+    go : (g : Got Road) → accepted f ≡ g → RowBack (rowOn s room g)
+    go (refused n p) e = row-refusal n p (number-above f n p e)
+    go (got r end) e = by (length (line r s)) (ltb room 96) (ltb (total r) s)
+
+pub next-read-back : (f : List ℕ) (s : ℕ) → NextBack (nextAnswer f s)
+unfolding nextAnswer
+next-read-back f s = go (accepted f) refl
+  where
+    of : {r : Road} → Guaranteed r → {o : Option ℕ} → Least s (stations r) o → NextBack (stationOr o)
+    of {r} G (least {x = x} m l k) =
+        let T = G .whole .high in
+        let h : x ≤ total r = listed-inside G (listed-has r x m) in
+        ap (λ (b : Bool). if b then noStation else station x) (not-mark x (omega arith))
+    of G (nothing k) = refl
+
+    go : (g : Got Road) → accepted f ≡ g → NextBack (nextOn s g)
+    go (refused n p) e = next-refusal n p (number-above f n p e)
+    go (got r end) e = of (guaranteed f r end e) (next-least r s)
+
+pub list-read-back : (f : List ℕ) (s room : ℕ) → ListBack (listAnswer f s room)
+unfolding listAnswer
+list-read-back f s room = go (accepted f) refl
+  where
+    of : {r : Road} → Guaranteed r → (o : Onward) → onward (chunk r s room .left) ≡ o → (n : ℕ) → ListBack (part (record { bytes = n; next = o }))
+    of {r} G (onwards.From t) e n =
+        let T = G .whole .high in
+        let h : t ≤ total r = listed-inside G (onward-listed G s room t e) in
+        ap (λ (b : Bool). part (record { bytes = n; next = if b then onwards.Done else onwards.From t })) (not-mark t (omega arith))
+    of G onwards.Done e n = refl
+
+    by : {r : Road} → Guaranteed r → (short : Bool) → ListBack (if short then turnedAway 20 0 else part (answer (chunk r s room)))
+    by G true = refl
+    by {r} G false = of G (onward (chunk r s room .left)) refl (length (chunk r s room .text))
+
+    go : (g : Got Road) → accepted f ≡ g → ListBack (listOn s room g)
+    go (refused n p) e = list-refusal n p none (number-above f n p e)
+    go (got r end) e = by (guaranteed f r end e) (ltb room 96)
