@@ -1,0 +1,169 @@
+//! Bytes that are no road, and roads that no one would build.
+
+use super::numbers::file;
+use super::random::Random;
+use super::valid::plan::total;
+use super::valid::{divided_up, random_start_height};
+use crate::reference::file::{Alignment, CrossfallPoint, Element, Kind, Tangent};
+
+/// Random bytes, runs of one byte, small numbers.
+pub fn bytes(random: &mut Random) -> Vec<u8> {
+    let length = match random.place(8) {
+        0 => random.between(8_185, 8_200) as usize,
+        1 => random.between(0, 9_000) as usize,
+        2 => random.between(0, 3) as usize,
+        _ => random.between_by_size(0, 9_000) as usize,
+    };
+    match random.place(4) {
+        0 => random.bytes(length),
+        1 => vec![random.pick(&[0x00, 0x01, 0x7f, 0x80, 0xff]); length],
+        2 => (0..length).map(|_| random.next() as u8 & 0x83).collect(),
+        _ => {
+            // A start that can be read, then anything.
+            let mut bytes = vec![
+                random.between(1, 4) as u8,
+                random.between(1, 3) as u8,
+                0x88,
+                0x27,
+                random.between(1, 127) as u8,
+                random.between(1, 9) as u8,
+            ];
+            while bytes.len() < length {
+                bytes.push(random.next() as u8 & random.pick(&[0x03, 0x7f, 0xff]));
+            }
+            bytes
+        }
+    }
+}
+
+/// A file that can be read, its fields of any value; some of the rules are kept now and then.
+pub fn extreme(random: &mut Random) -> Vec<u8> {
+    let count = |random: &mut Random, least: i128, most: i128| {
+        if random.chance(5) {
+            random.between_or_bound(least, most)
+        } else {
+            random.between(least, most.min(6))
+        }
+    };
+    let right_kinds = random.chance(85);
+    let mut element_count = count(random, 1, 200);
+    if right_kinds {
+        element_count -= (element_count - 1) % 4;
+    }
+    let gentle = random.chance(60);
+    let elements: Vec<Element> = (0..element_count)
+        .map(|place| extreme_element(random, place, right_kinds, gentle))
+        .collect();
+    let mut tangents: Vec<Tangent> = (0..count(random, 1, 100))
+        .map(|_| extreme_tangent(random, gentle))
+        .collect();
+    if random.chance(85) {
+        add_up(&mut tangents, total(&elements));
+    }
+    tangents.last_mut().expect("a tangent").half_length = 0;
+    let mut points: Vec<CrossfallPoint> = (0..count(random, 2, 200))
+        .map(|_| extreme_point(random, gentle, total(&elements)))
+        .collect();
+    if random.chance(80) {
+        points.sort_by_key(|point| point.station);
+    }
+    if random.chance(80) {
+        points[0].station = 0;
+        points.last_mut().expect("a point").station = total(&elements).min(100_000_000);
+    }
+    if gentle && random.chance(50) {
+        let first = points[0];
+        for point in &mut points {
+            (point.left, point.right) = (first.left, first.right);
+        }
+    }
+    file(&Alignment {
+        class: random.between(1, 4),
+        terrain: random.between(1, 3),
+        step: random.between_or_bound(1_000, 100_000),
+        ramp_limit: random.between_or_bound(1, 20_000),
+        elements,
+        start_height: random_start_height(random),
+        tangents,
+        points,
+    })
+}
+
+fn extreme_element(random: &mut Random, place: i128, right_kind: bool, gentle: bool) -> Element {
+    let kind = if !right_kind {
+        random.pick(&[Kind::Straight, Kind::Arc, Kind::Clothoid])
+    } else {
+        match place % 4 {
+            0 => Kind::Straight,
+            2 => Kind::Arc,
+            _ => Kind::Clothoid,
+        }
+    };
+    let (length, size) = if gentle {
+        (
+            random.between(60_000, 1_200_000),
+            random.between(300_000, 10_000_000),
+        )
+    } else {
+        (
+            random.between_or_bound(1, 10_000_000),
+            random.between_or_bound(10_000, 10_000_000),
+        )
+    };
+    let radius = if kind == Kind::Arc {
+        random.sign() * size
+    } else {
+        0
+    };
+    Element {
+        kind,
+        length,
+        radius,
+    }
+}
+
+fn extreme_tangent(random: &mut Random, gentle: bool) -> Tangent {
+    let length = random.between_or_bound(1, 10_000_000);
+    if gentle {
+        Tangent {
+            length,
+            grade: random.between(-3_000, 3_000),
+            half_length: random.between(0, 30_000),
+        }
+    } else {
+        Tangent {
+            length,
+            grade: random.between_or_bound(-120_000, 120_000),
+            half_length: random.between_or_bound(0, 1_000_000),
+        }
+    }
+}
+
+fn extreme_point(random: &mut Random, gentle: bool, end: i128) -> CrossfallPoint {
+    if gentle {
+        let size = random.sign() * random.between_or_bound(25_000, 70_000);
+        CrossfallPoint {
+            station: random.between(0, end.min(100_000_000)),
+            left: size,
+            right: -size,
+        }
+    } else {
+        CrossfallPoint {
+            station: random.between_or_bound(0, 100_000_000),
+            left: random.between_or_bound(-80_000, 80_000),
+            right: random.between_or_bound(-80_000, 80_000),
+        }
+    }
+}
+
+/// Gives the tangents even lengths that add up to T, where that can be.
+fn add_up(tangents: &mut [Tangent], total: i128) {
+    let count = tangents.len() as i128;
+    if divided_up(total, count) > 10_000_000 || total < count {
+        return;
+    }
+    for (place, tangent) in tangents.iter_mut().enumerate() {
+        let place = place as i128;
+        tangent.length = total * (place + 1) / count - total * place / count;
+    }
+}

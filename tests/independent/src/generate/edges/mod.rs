@@ -1,0 +1,197 @@
+//! Files at both sides of each limit: just inside, and just outside.
+
+mod crossfall;
+pub mod plan;
+mod profile;
+mod shape;
+
+use super::numbers::{file, Field};
+use super::random::Random;
+use crate::reference::file::{Alignment, Refusal};
+use crate::reference::limits::{limits, Limits};
+use shape::Bound;
+
+/// What the paper must say of a file.
+#[derive(Clone, Copy, Debug, PartialEq, Eq)]
+pub enum Expected {
+    Accepted,
+    Refused(i128),
+    RefusedAt(i128, usize),
+    /// Only that this number is not refused with 3 at its first byte.
+    NotOutsideRangeAt(usize),
+}
+
+impl Expected {
+    /// Whether a verdict is what was expected.
+    pub fn holds(self, refusal: Option<Refusal>) -> bool {
+        let is = |number: i128| refusal.is_some_and(|refusal| refusal.number == number);
+        let at = |place: usize| refusal.is_some_and(|refusal| refusal.place == place as i128);
+        match self {
+            Expected::Accepted => refusal.is_none(),
+            Expected::Refused(number) => is(number),
+            Expected::RefusedAt(number, place) => is(number) && at(place),
+            Expected::NotOutsideRangeAt(place) => !(is(3) && at(place)),
+        }
+    }
+}
+
+pub type Made = (Vec<u8>, Expected);
+
+/// A limit: its name, and what makes files inside and outside of it.
+pub struct Edge {
+    pub name: &'static str,
+    maker: Maker,
+}
+
+#[derive(Clone, Copy)]
+enum Maker {
+    Bound(Bound),
+    Road(fn(&mut Random, bool) -> Made),
+}
+
+impl Edge {
+    pub fn make(&self, random: &mut Random, outside: bool) -> Made {
+        match self.maker {
+            Maker::Bound(bound) => shape::at_bound(random, outside, bound),
+            Maker::Road(make) => make(random, outside),
+        }
+    }
+}
+
+const fn edge(name: &'static str, make: fn(&mut Random, bool) -> Made) -> Edge {
+    let maker = Maker::Road(make);
+    Edge { name, maker }
+}
+
+const fn bound(name: &'static str, field: Field, value: i128, beyond: i128) -> Edge {
+    let maker = Maker::Bound(Bound {
+        field,
+        value,
+        beyond,
+    });
+    Edge { name, maker }
+}
+
+/// Where the limits of refusals 5 to 19 begin.
+pub const FIRST_RULE: usize = 40;
+
+pub const EDGES: [Edge; 72] = [
+    edge("1 longest file", shape::longest_file),
+    edge("2 breaks off", shape::breaks_off),
+    edge("2 shortest form", shape::shortest_form),
+    edge("2 greatest number", shape::greatest_number),
+    edge("2 five bytes", shape::five_bytes),
+    edge("2 top bit at the end", shape::top_bit_at_end),
+    bound("3 class low", Field::Class, 1, -1),
+    bound("3 class high", Field::Class, 4, 1),
+    bound("3 terrain low", Field::Terrain, 1, -1),
+    bound("3 terrain high", Field::Terrain, 3, 1),
+    bound("3 step low", Field::Step, 1_000, -1),
+    bound("3 step high", Field::Step, 100_000, 1),
+    bound("3 ramp limit low", Field::RampLimit, 1, -1),
+    bound("3 ramp limit high", Field::RampLimit, 20_000, 1),
+    bound("3 plan count low", Field::PlanCount, 1, -1),
+    bound("3 plan count high", Field::PlanCount, 200, 1),
+    bound("3 kind high", Field::Kind, 2, 1),
+    bound("3 length low", Field::Length, 1, -1),
+    bound("3 length high", Field::Length, 10_000_000, 1),
+    bound("3 radius low, right", Field::Radius, 10_000, -1),
+    bound("3 radius low, left", Field::Radius, -10_000, 1),
+    bound("3 radius high, right", Field::Radius, 10_000_000, 1),
+    bound("3 radius high, left", Field::Radius, -10_000_000, -1),
+    bound("3 start height low", Field::StartHeight, -500_000, -1),
+    bound("3 start height high", Field::StartHeight, 3_000_000, 1),
+    bound("3 tangent count low", Field::TangentCount, 1, -1),
+    bound("3 tangent count high", Field::TangentCount, 100, 1),
+    bound("3 tangent length low", Field::TangentLength, 1, -1),
+    bound("3 tangent length high", Field::TangentLength, 10_000_000, 1),
+    bound("3 grade low", Field::Grade, -120_000, -1),
+    bound("3 grade high", Field::Grade, 120_000, 1),
+    bound("3 half length high", Field::HalfLength, 1_000_000, 1),
+    bound("3 crossfall count low", Field::CrossfallCount, 2, -1),
+    bound("3 crossfall count high", Field::CrossfallCount, 200, 1),
+    bound("3 point station high", Field::Station, 100_000_000, 1),
+    bound("3 left low", Field::Left, -80_000, -1),
+    bound("3 left high", Field::Left, 80_000, 1),
+    bound("3 right low", Field::Right, -80_000, -1),
+    bound("3 right high", Field::Right, 80_000, 1),
+    edge("4 bytes follow", shape::bytes_follow),
+    edge("5 plan length", plan::plan_length),
+    edge("5 plan length, early", plan::plan_length_early),
+    edge("6 tangents' sum", plan::tangents_sum),
+    edge("7 kind", plan::wrong_kind),
+    edge("7 stops short", plan::stops_short),
+    edge("7 most elements", plan::most_elements),
+    edge("8 straight max", plan::straight_max),
+    edge("9 straight min", plan::straight_min),
+    edge("9 turns", plan::turns),
+    edge("10 R min", plan::radius_min),
+    edge("11 arc min", plan::arc_min),
+    edge("12 A min", plan::clothoid_min),
+    edge("12 just the square", plan::clothoid_square),
+    edge("13 grade max", profile::grade_max),
+    edge("14 tangent and halves", profile::tangent_and_halves),
+    edge("15 sag", profile::sag),
+    edge("15 crest", profile::crest),
+    edge("15 h = 0", profile::no_vertical_curve),
+    edge("16 first point", crossfall::first_point),
+    edge("16 beyond forerunner", crossfall::beyond_forerunner),
+    edge("16 last point", crossfall::last_point),
+    edge("17 low", crossfall::least_crossfall),
+    edge("17 high", crossfall::greatest_crossfall),
+    edge("18 distance", crossfall::ramp_distance),
+    edge("18 ramp limit", crossfall::ramp_limit),
+    edge("18 just the product", crossfall::ramp_product),
+    edge("19 at arc start", crossfall::ramp_ends_at_arc),
+    edge("19 at arc end", crossfall::ramp_begins_at_arc),
+    edge("19 change on arc", crossfall::change_on_arc),
+    edge("19 inner side", crossfall::inner_side),
+    edge("19 left and right", crossfall::left_and_right),
+    edge("19 R'", crossfall::both_falling),
+];
+
+fn accepted(alignment: &Alignment) -> Made {
+    (file(alignment), Expected::Accepted)
+}
+
+fn refused(alignment: &Alignment, number: i128) -> Made {
+    (file(alignment), Expected::Refused(number))
+}
+
+fn accepted_or(outside: bool, alignment: &Alignment, number: i128) -> Made {
+    if outside {
+        refused(alignment, number)
+    } else {
+        accepted(alignment)
+    }
+}
+
+fn random_row(random: &mut Random) -> (i128, i128) {
+    (random.between(1, 4), random.between(1, 3))
+}
+
+/// A class and terrain whose row has what is asked of it.
+fn row_with(random: &mut Random, has: fn(&Limits) -> bool) -> (i128, i128) {
+    loop {
+        let (class, terrain) = random_row(random);
+        if has(&limits(class, terrain)) {
+            return (class, terrain);
+        }
+    }
+}
+
+/// Tries roads until one has the place asked for.
+fn road_with<P>(
+    random: &mut Random,
+    mut road: impl FnMut(&mut Random) -> Alignment,
+    find: impl Fn(&Alignment) -> Vec<P>,
+) -> (Alignment, P) {
+    loop {
+        let alignment = road(random);
+        let mut places = find(&alignment);
+        if !places.is_empty() {
+            let place = places.swap_remove(random.place(places.len()));
+            return (alignment, place);
+        }
+    }
+}

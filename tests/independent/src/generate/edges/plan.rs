@@ -1,0 +1,289 @@
+//! Refusals 5 to 12: lengths, kinds, straights, arcs and clothoids.
+
+use super::{accepted, accepted_or, random_row, refused, road_with, row_with, Made};
+use crate::generate::random::Random;
+use crate::generate::valid::plan::{least_clothoid, plan, plan_of_radii, stretch, total};
+use crate::generate::valid::{
+    alignment, alignment_of, upon_plan, Size, LONGEST_LENGTH, LONGEST_PLAN,
+};
+use crate::reference::file::{Alignment, Element, Kind};
+use crate::reference::limits::{limits, Limits};
+
+/// A road as long as a plan may be.
+fn longest_road(random: &mut Random) -> Alignment {
+    let (class, terrain) = random_row(random);
+    let size = Size::with_bends(random, 4, 49);
+    let limits = limits(class, terrain);
+    let mut elements = plan(random, &limits, &size);
+    stretch(random, &mut elements, LONGEST_PLAN);
+    upon_plan(random, class, terrain, elements, &size)
+}
+
+pub fn plan_length(random: &mut Random, outside: bool) -> Made {
+    let (mut alignment, _) = road_with(random, longest_road, |road| {
+        let full = road.total_length() == LONGEST_PLAN;
+        full.then_some(()).into_iter().collect()
+    });
+    if !outside {
+        return accepted(&alignment);
+    }
+    for element in &mut alignment.elements {
+        if element.length < LONGEST_LENGTH {
+            element.length += 1;
+            break;
+        }
+    }
+    for tangent in &mut alignment.tangents {
+        if tangent.length < LONGEST_LENGTH {
+            tangent.length += 1;
+            break;
+        }
+    }
+    refused(&alignment, 5)
+}
+
+/// The plan length is passed, or just reached, before the last element.
+pub fn plan_length_early(random: &mut Random, outside: bool) -> Made {
+    let (mut alignment, _) = road_with(random, longest_road, |road| {
+        let full = road.total_length() == LONGEST_PLAN;
+        full.then_some(()).into_iter().collect()
+    });
+    if !outside {
+        return accepted(&alignment);
+    }
+    let count = alignment.elements.len();
+    let last = alignment.elements[count - 1].length;
+    let place = random.place(count - 1);
+    let element = &mut alignment.elements[place];
+    element.length = (element.length + last + 1).min(LONGEST_LENGTH);
+    if alignment.total_length() <= LONGEST_PLAN {
+        return plan_length(random, outside);
+    }
+    refused(&alignment, 5)
+}
+
+pub fn tangents_sum(random: &mut Random, outside: bool) -> Made {
+    let mut alignment = alignment(random);
+    if outside {
+        let place = random.place(alignment.tangents.len());
+        let length = &mut alignment.tangents[place].length;
+        let shorter = *length > 1 && random.chance(50) || *length == LONGEST_LENGTH;
+        *length += if shorter { -1 } else { 1 };
+    }
+    accepted_or(outside, &alignment, 6)
+}
+
+pub fn wrong_kind(random: &mut Random, outside: bool) -> Made {
+    let mut alignment = alignment(random);
+    if outside {
+        let place = random.place(alignment.elements.len());
+        change_kind(random, &mut alignment.elements[place]);
+    }
+    accepted_or(outside, &alignment, 7)
+}
+
+pub fn change_kind(random: &mut Random, element: &mut Element) {
+    let kinds: Vec<Kind> = [Kind::Straight, Kind::Arc, Kind::Clothoid]
+        .into_iter()
+        .filter(|&kind| kind != element.kind)
+        .collect();
+    element.kind = random.pick(&kinds);
+    element.radius = random.sign() * random.between_or_bound(10_000, 10_000_000);
+}
+
+pub fn stops_short(random: &mut Random, outside: bool) -> Made {
+    let (class, terrain) = random_row(random);
+    let size = Size::with_bends(random, 1, 49);
+    let mut alignment = alignment_of(random, class, terrain, &size);
+    if outside {
+        // The last elements are left out; their length goes to others.
+        let end = alignment.total_length();
+        let fewer = random.between(1, 3) as usize;
+        let kept = alignment.elements.len() - fewer;
+        alignment.elements.truncate(kept);
+        let mut missing = end - total(&alignment.elements);
+        for element in &mut alignment.elements {
+            let more = missing.min(LONGEST_LENGTH - element.length);
+            element.length += more;
+            missing -= more;
+        }
+        if missing > 0 {
+            return stops_short(random, outside);
+        }
+    }
+    accepted_or(outside, &alignment, 7)
+}
+
+/// 197 elements pass; 198 to 200 stop short.
+pub fn most_elements(random: &mut Random, outside: bool) -> Made {
+    let (class, terrain) = random_row(random);
+    let size = Size::with_bends(random, 49, 49);
+    let limits = limits(class, terrain);
+    let elements = plan(random, &limits, &size);
+    let mut alignment = upon_plan(random, class, terrain, elements, &size);
+    if outside {
+        let more = random.between(1, 3) as usize;
+        let shortened = &mut alignment.elements[196];
+        if shortened.length <= more as i128 {
+            return most_elements(random, outside);
+        }
+        shortened.length -= more as i128;
+        let kinds = [Kind::Clothoid, Kind::Arc, Kind::Clothoid];
+        for kind in kinds.into_iter().take(more) {
+            alignment.elements.push(Element {
+                kind,
+                length: 1,
+                radius: 10_000,
+            });
+        }
+    }
+    accepted_or(outside, &alignment, 7)
+}
+
+/// A plan with one thing changed, then profile and crossfalls upon it.
+fn changed_plan(
+    random: &mut Random,
+    outside: bool,
+    number: i128,
+    row: (i128, i128),
+    least_bends: i128,
+    change: impl Fn(&mut Random, &Limits, &mut Vec<Element>, i128),
+) -> Made {
+    let size = Size::with_bends(random, least_bends, 5);
+    let limits = limits(row.0, row.1);
+    let mut elements = plan(random, &limits, &size);
+    let beyond = if outside { 1 } else { 0 };
+    change(random, &limits, &mut elements, beyond);
+    let alignment = upon_plan(random, row.0, row.1, elements, &size);
+    accepted_or(outside, &alignment, number)
+}
+
+fn random_arc(random: &mut Random, elements: &[Element]) -> usize {
+    2 + 4 * random.place((elements.len() - 1) / 4)
+}
+
+pub fn straight_max(random: &mut Random, outside: bool) -> Made {
+    let row = row_with(random, |limits| limits.straight_max.is_some());
+    changed_plan(
+        random,
+        outside,
+        8,
+        row,
+        0,
+        |random, limits, elements, beyond| {
+            let place = 4 * random.place(elements.len().div_ceil(4));
+            elements[place].length = limits.straight_max.expect("a row with it") + beyond;
+        },
+    )
+}
+
+pub fn straight_min(random: &mut Random, outside: bool) -> Made {
+    let row = row_with(random, |limits| limits.straight_min.is_some());
+    let mut size = Size::with_bends(random, 2, 5);
+    size.spread = size.spread.min(100_000);
+    let limits = limits(row.0, row.1);
+    let turn = random.sign();
+    let radii: Vec<i128> = (0..size.bends)
+        .map(|_| turn * random.between(limits.radius_min, 4 * limits.radius_min))
+        .collect();
+    let mut elements = plan_of_radii(random, &limits, &size, &radii);
+    let place = 4 * (1 + random.place(size.bends - 1));
+    let beyond = if outside { 1 } else { 0 };
+    elements[place].length = limits.straight_min.expect("a row with it") - beyond;
+    let alignment = upon_plan(random, row.0, row.1, elements, &size);
+    accepted_or(outside, &alignment, 9)
+}
+
+/// A straight too short for one turn is long enough between opposite turns and at the ends.
+pub fn turns(random: &mut Random, outside: bool) -> Made {
+    let row = row_with(random, |limits| limits.straight_min.is_some());
+    let size = Size::with_bends(random, 2, 2);
+    let limits = limits(row.0, row.1);
+    let radius = random.sign() * random.between(limits.radius_min, 4 * limits.radius_min);
+    let other = if outside { radius } else { -radius };
+    let mut elements = plan_of_radii(random, &limits, &size, &[radius, other]);
+    let straight_min = limits.straight_min.expect("a row with it");
+    elements[4].length = random.between(1, straight_min - 1);
+    let alignment = upon_plan(random, row.0, row.1, elements, &size);
+    accepted_or(outside, &alignment, 9)
+}
+
+pub fn radius_min(random: &mut Random, outside: bool) -> Made {
+    let row = random_row(random);
+    changed_plan(
+        random,
+        outside,
+        10,
+        row,
+        1,
+        |random, limits, elements, beyond| {
+            let place = random_arc(random, elements);
+            let sign = elements[place].radius.signum();
+            elements[place].radius = sign * (limits.radius_min - beyond);
+            for clothoid in [place - 1, place + 1] {
+                let least = least_clothoid(limits, elements[place].radius);
+                elements[clothoid].length = elements[clothoid].length.max(least);
+            }
+        },
+    )
+}
+
+pub fn arc_min(random: &mut Random, outside: bool) -> Made {
+    let row = random_row(random);
+    changed_plan(
+        random,
+        outside,
+        11,
+        row,
+        1,
+        |random, limits, elements, beyond| {
+            let place = random_arc(random, elements);
+            elements[place].length = limits.arc_min - beyond;
+        },
+    )
+}
+
+pub fn clothoid_min(random: &mut Random, outside: bool) -> Made {
+    let row = random_row(random);
+    changed_plan(
+        random,
+        outside,
+        12,
+        row,
+        1,
+        |random, limits, elements, beyond| {
+            let place = random_arc(random, elements);
+            let clothoid = random.pick(&[place - 1, place + 1]);
+            let before = elements[clothoid].length;
+            elements[clothoid].length = least_clothoid(limits, elements[place].radius) - beyond;
+            // The clothoid beyond the straight keeps the room that the crossfall needs.
+            let fellow = if clothoid < place {
+                clothoid.checked_sub(2)
+            } else {
+                Some(clothoid + 2)
+            };
+            if let Some(fellow) = fellow.and_then(|fellow| elements.get_mut(fellow)) {
+                fellow.length = (fellow.length + before).min(LONGEST_LENGTH);
+            }
+        },
+    )
+}
+
+/// Length times radius is A min squared, or 1 below.
+pub fn clothoid_square(random: &mut Random, outside: bool) -> Made {
+    let (class, terrain) = random_row(random);
+    let limits = limits(class, terrain);
+    let square = limits.clothoid_parameter_min * limits.clothoid_parameter_min;
+    let product = if outside { square - 1 } else { square };
+    let (least, most) = (product / LONGEST_LENGTH + 1, product / limits.radius_min);
+    let from = random.between(least, most);
+    let Some(length) = (from..=most).find(|length| product % length == 0) else {
+        return clothoid_square(random, outside);
+    };
+    let size = Size::with_bends(random, 1, 1);
+    let radius = random.sign() * (product / length);
+    let mut elements = plan_of_radii(random, &limits, &size, &[radius]);
+    elements[random.pick(&[1, 3])].length = length;
+    let alignment = upon_plan(random, class, terrain, elements, &size);
+    accepted_or(outside, &alignment, 12)
+}

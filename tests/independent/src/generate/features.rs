@@ -1,0 +1,198 @@
+//! What is special about a road that is not turned away, to see what the files reach.
+
+use super::valid::crossfall::arcs;
+use super::valid::plan::least_clothoid;
+use super::valid::profile::least_half_length;
+use crate::reference::file::{Alignment, CrossfallPoint, Element, Kind};
+use crate::reference::limits::{limits, speed, Limits};
+use crate::reference::road;
+
+type Feature = (&'static str, fn(&Alignment, &Limits) -> bool);
+
+pub const FEATURES: [Feature; 58] = [
+    ("40 km/h", |r, _| speed(r.class, r.terrain) == 40),
+    ("50 km/h", |r, _| speed(r.class, r.terrain) == 50),
+    ("60 km/h", |r, _| speed(r.class, r.terrain) == 60),
+    ("70 km/h", |r, _| speed(r.class, r.terrain) == 70),
+    ("80 km/h", |r, _| speed(r.class, r.terrain) == 80),
+    ("100 km/h", |r, _| speed(r.class, r.terrain) == 100),
+    ("step 1,000", |r, _| r.step == 1_000),
+    ("step 100,000", |r, _| r.step == 100_000),
+    ("T a multiple of step", |r, _| {
+        r.total_length() % r.step == 0
+    }),
+    ("T 1 past a multiple of step", |r, _| {
+        r.total_length() % r.step == 1
+    }),
+    ("T 1 before a multiple of step", |r, _| {
+        (r.total_length() + 1) % r.step == 0
+    }),
+    ("ramp limit 1", |r, _| r.ramp_limit == 1),
+    ("ramp limit 20,000", |r, _| r.ramp_limit == 20_000),
+    ("1 element", |r, _| r.elements.len() == 1),
+    ("5 elements", |r, _| r.elements.len() == 5),
+    ("197 elements", |r, _| r.elements.len() == 197),
+    ("T = 100,000,000", |r, _| r.total_length() == 100_000_000),
+    ("T below step", |r, _| r.total_length() < r.step),
+    ("an element of 1", |r, _| any(r, |e| e.length == 1)),
+    ("an element of 10,000,000", |r, _| {
+        any(r, |e| e.length == 10_000_000)
+    }),
+    ("a right turn", |r, _| any(r, |e| e.radius > 0)),
+    ("a left turn", |r, _| any(r, |e| e.radius < 0)),
+    ("radius 10,000,000", |r, _| {
+        any(r, |e| e.radius == 10_000_000)
+    }),
+    ("radius -10,000,000", |r, _| {
+        any(r, |e| e.radius == -10_000_000)
+    }),
+    ("straight at its max", |r, l| straight(r, l.straight_max)),
+    ("straight at its min", |r, l| straight(r, l.straight_min)),
+    ("radius at R min", |r, l| {
+        any(r, |e| e.radius.abs() == l.radius_min)
+    }),
+    ("arc at its min", |r, l| {
+        any(r, |e| e.kind == Kind::Arc && e.length == l.arc_min)
+    }),
+    ("clothoid at its min", clothoid_at_min),
+    ("start height -500,000", |r, _| r.start_height == -500_000),
+    ("start height 3,000,000", |r, _| r.start_height == 3_000_000),
+    ("start height below 0", |r, _| r.start_height < 0),
+    ("ends above 5,000,000", |r, _| end_height(r) > 5_000_000),
+    ("ends below -5,000,000", |r, _| end_height(r) < -5_000_000),
+    ("1 tangent", |r, _| r.tangents.len() == 1),
+    ("100 tangents", |r, _| r.tangents.len() == 100),
+    ("a tangent of 1", |r, _| {
+        r.tangents.iter().any(|t| t.length == 1)
+    }),
+    ("a tangent of 10,000,000", |r, _| {
+        r.tangents.iter().any(|t| t.length == 10_000_000)
+    }),
+    ("grade at its max", |r, l| {
+        r.tangents.iter().any(|t| t.grade == l.grade_max)
+    }),
+    ("grade at minus its max", |r, l| {
+        r.tangents.iter().any(|t| t.grade == -l.grade_max)
+    }),
+    ("vertex with h = 0", |r, _| vertex(r, |h, _| h == 0)),
+    ("h = 1", |r, _| vertex(r, |h, _| h == 1)),
+    ("h = 1,000,000", |r, _| vertex(r, |h, _| h == 1_000_000)),
+    ("h > 0, equal grades", |r, _| {
+        vertex(r, |h, change| h > 0 && change == 0)
+    }),
+    ("sag at its min", |r, l| {
+        vertex(r, |h, c| c > 0 && h == least_half_length(l, c))
+    }),
+    ("crest at its min", |r, l| {
+        vertex(r, |h, c| c < 0 && h == least_half_length(l, c))
+    }),
+    ("2h x 10^6 just the product", exact_vertical_radius),
+    ("curves that touch", touching_curves),
+    ("2 crossfall points", |r, _| r.points.len() == 2),
+    ("200 crossfall points", |r, _| r.points.len() == 200),
+    ("points 1 apart", |r, _| {
+        pair(r, |a, b| b.station - a.station == 1)
+    }),
+    ("crossfall 70,000", |r, _| {
+        r.points.iter().any(|p| p.left == 70_000)
+    }),
+    ("crossfall through 0", |r, _| {
+        pair(r, |a, b| a.left.signum() != b.left.signum())
+    }),
+    ("ramp just at the limit", exact_ramp),
+    ("arc superelevated", |r, _| {
+        on_arc(r, |left, right| left == -right)
+    }),
+    ("arc with both sides falling", |r, _| {
+        on_arc(r, |left, right| left == right)
+    }),
+    ("... at radius R'", falling_at_least_radius),
+    ("ramp ends where an arc starts", ramp_meets_arc),
+];
+
+/// Whether a road has each of the features.
+pub fn features(road: &Alignment) -> [bool; FEATURES.len()] {
+    let limits = limits(road.class, road.terrain);
+    FEATURES.map(|(_, has)| has(road, &limits))
+}
+
+fn any(road: &Alignment, has: impl Fn(&Element) -> bool) -> bool {
+    road.elements.iter().any(has)
+}
+
+fn straight(road: &Alignment, length: Option<i128>) -> bool {
+    any(road, |element| {
+        element.kind == Kind::Straight && Some(element.length) == length
+    })
+}
+
+fn clothoid_at_min(road: &Alignment, limits: &Limits) -> bool {
+    (0..road.elements.len()).any(|place| {
+        let element = road.elements[place];
+        element.kind == Kind::Clothoid
+            && element.length == least_clothoid(limits, road::arc_of_clothoid(road, place).radius)
+    })
+}
+
+fn end_height(road: &Alignment) -> i128 {
+    road::height(road, road.total_length()).rounded()
+}
+
+/// A vertex with such a half length and change of grade.
+fn vertex(road: &Alignment, has: impl Fn(i128, i128) -> bool) -> bool {
+    (0..road.tangents.len() - 1).any(|vertex| {
+        let change = road::change_of_grade(road, vertex);
+        has(road.tangents[vertex].half_length, change)
+    })
+}
+
+fn exact_vertical_radius(road: &Alignment, limits: &Limits) -> bool {
+    vertex(road, |h, change| {
+        let radius = if change > 0 {
+            limits.sag_radius
+        } else {
+            limits.crest_radius
+        };
+        change != 0 && 2 * h * 1_000_000 == radius * change.abs()
+    })
+}
+
+fn touching_curves(road: &Alignment, _: &Limits) -> bool {
+    road.tangents.windows(2).any(|pair| {
+        let (before, after) = (pair[0].half_length, pair[1].half_length);
+        before > 0 && after > 0 && pair[1].length == before + after
+    })
+}
+
+fn pair(road: &Alignment, has: impl Fn(&CrossfallPoint, &CrossfallPoint) -> bool) -> bool {
+    road.points.windows(2).any(|pair| has(&pair[0], &pair[1]))
+}
+
+fn exact_ramp(road: &Alignment, limits: &Limits) -> bool {
+    pair(road, |a, b| {
+        let change = (b.left - a.left).abs().max((b.right - a.right).abs());
+        change > 0 && limits.lane_width * change == road.ramp_limit * (b.station - a.station)
+    })
+}
+
+fn on_arc(road: &Alignment, has: impl Fn(i128, i128) -> bool) -> bool {
+    arcs(&road.elements).iter().any(|arc| {
+        let left = road::crossfall(road, arc.start, |point| point.left).rounded();
+        let right = road::crossfall(road, arc.start, |point| point.right).rounded();
+        has(left, right)
+    })
+}
+
+fn falling_at_least_radius(road: &Alignment, limits: &Limits) -> bool {
+    arcs(&road.elements).iter().any(|arc| {
+        let left = road::crossfall(road, arc.start, |point| point.left).rounded();
+        let right = road::crossfall(road, arc.start, |point| point.right).rounded();
+        left == right && Some(arc.radius.abs()) == limits.radius_both_falling
+    })
+}
+
+fn ramp_meets_arc(road: &Alignment, _: &Limits) -> bool {
+    arcs(&road.elements)
+        .iter()
+        .any(|arc| pair(road, |a, b| b.station == arc.start && a.left != b.left))
+}

@@ -1,0 +1,67 @@
+//! The generator itself: what it makes, and that it reaches everything.
+
+use super::edges::EDGES;
+use super::numbers::{file, numbers};
+use super::random::Random;
+use super::valid::alignment;
+use super::{make_file, FileKind};
+use crate::reference::file::read;
+use crate::reference::machine::accept;
+
+#[test]
+fn valid_roads_are_accepted() {
+    for index in 0..3_000 {
+        let mut random = Random::for_file(7, index);
+        let bytes = file(&alignment(&mut random));
+        assert!(accept(&bytes).is_ok(), "index {index}");
+    }
+}
+
+#[test]
+fn both_sides_of_every_limit_are_as_expected() {
+    for (place, edge) in EDGES.iter().enumerate() {
+        for index in 0..20 {
+            for outside in [false, true] {
+                let mut random = Random::for_file(place as u64, index);
+                let (bytes, expected) = edge.make(&mut random, outside);
+                let refusal = accept(&bytes).err();
+                assert!(
+                    expected.holds(refusal),
+                    "{} outside {outside} index {index}: {expected:?}, {refusal:?}",
+                    edge.name
+                );
+            }
+        }
+    }
+}
+
+#[test]
+fn limits_of_rules_begin_where_said() {
+    assert!(EDGES[super::FIRST_RULE].name.starts_with("5 "));
+    assert!(EDGES[super::FIRST_RULE - 1].name.starts_with("4 "));
+}
+
+#[test]
+fn a_file_is_made_again_from_seed_and_index() {
+    for index in 0..200 {
+        let make = || make_file(&mut Random::for_file(3, index), None).bytes;
+        assert_eq!(make(), make());
+    }
+}
+
+#[test]
+fn numbers_of_a_road_are_read_back() {
+    for index in 0..200 {
+        let road = alignment(&mut Random::for_file(11, index));
+        let again = read(&file(&road)).expect("a file that can be read");
+        let written = |road| numbers(road).iter().map(|n| n.written).collect::<Vec<_>>();
+        assert_eq!(written(&road), written(&again));
+    }
+}
+
+#[test]
+fn one_kind_alone_can_be_asked_for() {
+    let mut random = Random::for_file(5, 1);
+    let made = make_file(&mut random, Some(FileKind::Absurd));
+    assert!(made.kind == FileKind::Absurd && made.edge.is_none());
+}

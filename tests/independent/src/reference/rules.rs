@@ -1,0 +1,265 @@
+//! "Numbers that turn a file away", refusals 5 to 19.
+//!
+//! Each function gives the first item that breaks its rule. "The lowest refusal wins", so a
+//! rule is only asked where all before it hold.
+
+use super::file::{Alignment, CrossfallPoint, Element, Kind, Refusal};
+use super::fraction::Fraction;
+use super::limits::{limits, Limits};
+use super::road;
+
+type Rule = fn(&Alignment, &Limits) -> Option<usize>;
+
+const RULES: [(i128, Rule); 15] = [
+    (5, plan_too_long),
+    (6, tangents_do_not_add_up),
+    (7, wrong_kind),
+    (8, straight_too_long),
+    (9, straight_too_short),
+    (10, radius_too_small),
+    (11, arc_too_short),
+    (12, clothoid_too_short),
+    (13, grade_too_steep),
+    (14, tangent_too_short),
+    (15, vertical_curve_too_sharp),
+    (16, point_misplaced),
+    (17, crossfall_outside_limits),
+    (18, ramp_too_steep),
+    (19, wrong_crossfall_on_arc),
+];
+
+/// "from 5 on, the lowest refusal wins, then the first item"
+pub fn judge(alignment: &Alignment) -> Result<(), Refusal> {
+    let limits = limits(alignment.class, alignment.terrain);
+    for (number, rule) in RULES {
+        if let Some(place) = rule(alignment, &limits) {
+            let place = place as i128;
+            return Err(Refusal { number, place });
+        }
+    }
+    Ok(())
+}
+
+/// The first element of a kind that has a fault.
+fn first_of_kind(
+    alignment: &Alignment,
+    kind: Kind,
+    faulty: impl Fn(usize, &Element) -> bool,
+) -> Option<usize> {
+    (0..alignment.elements.len()).find(|&place| {
+        let element = &alignment.elements[place];
+        element.kind == kind && faulty(place, element)
+    })
+}
+
+/// Refusal 5: "The running plan length passes 100,000,000 (place: element)."
+fn plan_too_long(alignment: &Alignment, _: &Limits) -> Option<usize> {
+    let mut running = 0;
+    for (place, element) in alignment.elements.iter().enumerate() {
+        running += element.length;
+        if running > 100_000_000 {
+            return Some(place);
+        }
+    }
+    None
+}
+
+/// Refusal 6: "The tangents do not add up to T (place 0)."
+fn tangents_do_not_add_up(alignment: &Alignment, _: &Limits) -> Option<usize> {
+    let sum: i128 = alignment
+        .tangents
+        .iter()
+        .map(|tangent| tangent.length)
+        .sum();
+    (sum != alignment.total_length()).then_some(0)
+}
+
+/// Refusal 7: "The kinds do not run 0, then any count of 2, 1, 2, 0 (place: first wrong element,
+/// or the plan count where it stops short)."
+fn wrong_kind(alignment: &Alignment, _: &Limits) -> Option<usize> {
+    let kinds: Vec<Kind> = alignment.elements.iter().map(|e| e.kind).collect();
+    for (place, kind) in kinds.iter().enumerate() {
+        let right = match place % 4 {
+            0 => Kind::Straight,
+            2 => Kind::Arc,
+            _ => Kind::Clothoid,
+        };
+        if *kind != right {
+            return Some(place);
+        }
+    }
+    (kinds.len() % 4 != 1).then_some(kinds.len())
+}
+
+/// Refusal 8: "A straight is longer than straight max (place: element)."
+fn straight_too_long(alignment: &Alignment, limits: &Limits) -> Option<usize> {
+    let straight_max = limits.straight_max?;
+    first_of_kind(alignment, Kind::Straight, |_, straight| {
+        straight.length > straight_max
+    })
+}
+
+/// Refusal 9: "A straight between bends of the same turn is shorter than straight min (place:
+/// element)."
+fn straight_too_short(alignment: &Alignment, limits: &Limits) -> Option<usize> {
+    let straight_min = limits.straight_min?;
+    first_of_kind(alignment, Kind::Straight, |place, straight| {
+        between_same_turns(alignment, place) && straight.length < straight_min
+    })
+}
+
+/// An arc on both sides, their radii of the same sign.
+fn between_same_turns(alignment: &Alignment, straight: usize) -> bool {
+    let is_arc = |element: &&Element| element.kind == Kind::Arc;
+    let before = alignment.elements[..straight].iter().rfind(is_arc);
+    let after = alignment.elements[straight..].iter().find(is_arc);
+    match (before, after) {
+        (Some(before), Some(after)) => before.radius.signum() == after.radius.signum(),
+        _ => false,
+    }
+}
+
+/// Refusal 10: "An arc's radius, unsigned, is below R min (place: element)."
+fn radius_too_small(alignment: &Alignment, limits: &Limits) -> Option<usize> {
+    first_of_kind(alignment, Kind::Arc, |_, arc| {
+        arc.radius.abs() < limits.radius_min
+    })
+}
+
+/// Refusal 11: "An arc is shorter than arc min (place: element)."
+fn arc_too_short(alignment: &Alignment, limits: &Limits) -> Option<usize> {
+    first_of_kind(alignment, Kind::Arc, |_, arc| arc.length < limits.arc_min)
+}
+
+/// Refusal 12: "A clothoid's length times its arc's unsigned radius is below A min squared (place:
+/// element)."
+fn clothoid_too_short(alignment: &Alignment, limits: &Limits) -> Option<usize> {
+    let squared = limits.clothoid_parameter_min * limits.clothoid_parameter_min;
+    first_of_kind(alignment, Kind::Clothoid, |place, clothoid| {
+        let radius = road::arc_of_clothoid(alignment, place).radius;
+        clothoid.length * radius.abs() < squared
+    })
+}
+
+/// Refusal 13: "A grade, unsigned, is over grade max (place: tangent)."
+fn grade_too_steep(alignment: &Alignment, limits: &Limits) -> Option<usize> {
+    alignment
+        .tangents
+        .iter()
+        .position(|tangent| tangent.grade.abs() > limits.grade_max)
+}
+
+/// Refusal 14: "A tangent is shorter than the half lengths at its ends together (place: tangent)."
+fn tangent_too_short(alignment: &Alignment, _: &Limits) -> Option<usize> {
+    let tangents = &alignment.tangents;
+    (0..tangents.len()).find(|&place| {
+        let half_at_start = if place == 0 {
+            0
+        } else {
+            tangents[place - 1].half_length
+        };
+        let half_at_end = tangents[place].half_length;
+        tangents[place].length < half_at_start + half_at_end
+    })
+}
+
+/// Refusal 15: "2h x 10^6 is below the vertical radius x |g2 - g1|, sag R where g2 > g1, else
+/// crest R (place: vertex)."
+fn vertical_curve_too_sharp(alignment: &Alignment, limits: &Limits) -> Option<usize> {
+    let tangents = &alignment.tangents;
+    (0..tangents.len() - 1).find(|&vertex| {
+        let (before, after) = (tangents[vertex].grade, tangents[vertex + 1].grade);
+        let radius = if after > before {
+            limits.sag_radius
+        } else {
+            limits.crest_radius
+        };
+        2 * tangents[vertex].half_length * 1_000_000 < radius * (after - before).abs()
+    })
+}
+
+/// Refusal 16: "Point 0 is not at 0, a point is not beyond its forerunner, or the last is not at T
+/// (place: point)."
+fn point_misplaced(alignment: &Alignment, _: &Limits) -> Option<usize> {
+    let points = &alignment.points;
+    (0..points.len()).find(|&place| {
+        let station = points[place].station;
+        let start_wrong = place == 0 && station != 0;
+        let not_beyond = place > 0 && station <= points[place - 1].station;
+        let end_wrong = place == points.len() - 1 && station != alignment.total_length();
+        start_wrong || not_beyond || end_wrong
+    })
+}
+
+/// Refusal 17: "A crossfall, unsigned, is below 25,000 or above 70,000 (place: point)."
+fn crossfall_outside_limits(alignment: &Alignment, _: &Limits) -> Option<usize> {
+    let outside = |crossfall: i128| crossfall.abs() < 25_000 || crossfall.abs() > 70_000;
+    alignment
+        .points
+        .iter()
+        .position(|point| outside(point.left) || outside(point.right))
+}
+
+/// Refusal 18: "Lane width x change of crossfall of a side, unsigned, exceeds ramp limit x distance
+/// to the next point (place: first point of the pair)."
+fn ramp_too_steep(alignment: &Alignment, limits: &Limits) -> Option<usize> {
+    let points = &alignment.points;
+    (0..points.len() - 1).find(|&place| {
+        let (here, next) = (&points[place], &points[place + 1]);
+        let allowed = alignment.ramp_limit * (next.station - here.station);
+        let left = limits.lane_width * (next.left - here.left).abs();
+        let right = limits.lane_width * (next.right - here.right).abs();
+        left > allowed || right > allowed
+    })
+}
+
+/// Refusal 19: "On an arc a crossfall changes, or it is neither left = -right with the inner side
+/// negative, nor -25,000 on both sides with radius, unsigned, at least R' (place: element)."
+fn wrong_crossfall_on_arc(alignment: &Alignment, limits: &Limits) -> Option<usize> {
+    let starts = road::element_starts(alignment);
+    first_of_kind(alignment, Kind::Arc, |place, arc| {
+        let start = starts[place];
+        let left = constant_between(alignment, start, start + arc.length, |point| point.left);
+        let right = constant_between(alignment, start, start + arc.length, |point| point.right);
+        match (left, right) {
+            (Some(left), Some(right)) => {
+                !superelevated(arc, left, right) && !both_falling(arc, left, right, limits)
+            }
+            _ => true,
+        }
+    })
+}
+
+/// A side's crossfall from one station to another, ends included, or none where it changes.
+/// It is straight between neighbouring points, so the ends and the points between tell.
+fn constant_between(
+    alignment: &Alignment,
+    from: i128,
+    to: i128,
+    side: fn(&CrossfallPoint) -> i128,
+) -> Option<Fraction> {
+    let at_start = road::crossfall(alignment, from, side);
+    let at_end = road::crossfall(alignment, to, side);
+    let points_agree = alignment
+        .points
+        .iter()
+        .filter(|point| from < point.station && point.station < to)
+        .all(|point| at_start.equals(Fraction::whole(side(point))));
+    (at_start.equals(at_end) && points_agree).then_some(at_start)
+}
+
+/// "left = -right with the inner side negative"; the inner side is the right one for a right turn.
+fn superelevated(arc: &Element, left: Fraction, right: Fraction) -> bool {
+    let inner = if arc.radius > 0 { right } else { left };
+    let opposite = Fraction::new(-right.numerator, right.denominator);
+    left.equals(opposite) && inner.numerator < 0
+}
+
+/// "-25,000 on both sides with radius, unsigned, at least R'"
+fn both_falling(arc: &Element, left: Fraction, right: Fraction, limits: &Limits) -> bool {
+    let falling = Fraction::whole(-25_000);
+    match limits.radius_both_falling {
+        Some(least) => left.equals(falling) && right.equals(falling) && arc.radius.abs() >= least,
+        None => false,
+    }
+}

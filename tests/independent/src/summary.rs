@@ -1,0 +1,111 @@
+//! What was compared.
+
+use std::fmt;
+
+use crate::generate::edges::EDGES;
+use crate::generate::features::{features, FEATURES};
+use crate::generate::{FileKind, FILE_KINDS};
+use crate::reference::file::{Alignment, Refusal};
+
+pub struct Summary {
+    pub files: u64,
+    pub files_of_kind: [u64; FILE_KINDS.len()],
+    pub accepted_of_kind: [u64; FILE_KINDS.len()],
+    /// Files not turned away that have each feature.
+    pub features: [u64; FEATURES.len()],
+    /// By refusal number.
+    pub refused_files: [u64; 22],
+    pub refused_calls: [u64; 22],
+    /// Files inside and outside of each limit.
+    pub edges: [[u64; 2]; EDGES.len()],
+    pub row_calls: u64,
+    pub next_calls: u64,
+    pub list_calls: u64,
+    pub listing_runs: u64,
+    pub whole_lists: u64,
+    pub listed_rows: u64,
+    pub longest_list: u64,
+    pub blade_places: u64,
+}
+
+impl Summary {
+    pub fn new() -> Summary {
+        Summary {
+            files: 0,
+            files_of_kind: [0; FILE_KINDS.len()],
+            accepted_of_kind: [0; FILE_KINDS.len()],
+            features: [0; FEATURES.len()],
+            refused_files: [0; 22],
+            refused_calls: [0; 22],
+            edges: [[0; 2]; EDGES.len()],
+            row_calls: 0,
+            next_calls: 0,
+            list_calls: 0,
+            listing_runs: 0,
+            whole_lists: 0,
+            listed_rows: 0,
+            longest_list: 0,
+            blade_places: 0,
+        }
+    }
+
+    /// Counts a file of a kind, and what the paper says of it.
+    pub fn count_file(&mut self, kind: FileKind, verdict: &Result<Alignment, Refusal>) {
+        let named = |place: &usize| FILE_KINDS[*place].0 == kind;
+        let place = (0..FILE_KINDS.len())
+            .find(named)
+            .expect("a kind with a name");
+        self.files += 1;
+        self.files_of_kind[place] += 1;
+        match verdict {
+            Err(refusal) => self.refused_files[refusal.number as usize] += 1,
+            Ok(road) => {
+                self.accepted_of_kind[place] += 1;
+                for (count, has) in self.features.iter_mut().zip(features(road)) {
+                    *count += u64::from(has);
+                }
+            }
+        }
+    }
+
+    pub fn count_refused_call(&mut self, number: i128) {
+        self.refused_calls[number as usize] += 1;
+    }
+}
+
+impl fmt::Display for Summary {
+    fn fmt(&self, to: &mut fmt::Formatter<'_>) -> fmt::Result {
+        writeln!(to, "kind            files  accepted")?;
+        for (place, (_, name, _)) in FILE_KINDS.iter().enumerate() {
+            let (files, accepted) = (self.files_of_kind[place], self.accepted_of_kind[place]);
+            writeln!(to, "  {name:<10} {files:>9} {accepted:>9}")?;
+        }
+        let accepted: u64 = self.accepted_of_kind.iter().sum();
+        writeln!(to, "  {:<10} {:>9} {accepted:>9}", "all", self.files)?;
+        writeln!(to, "refusal     files     calls")?;
+        for number in 1..=21 {
+            let (files, calls) = (self.refused_files[number], self.refused_calls[number]);
+            writeln!(to, "{number:>7} {files:>9} {calls:>9}")?;
+        }
+        writeln!(to, "limit                      inside   outside")?;
+        for (edge, [inside, outside]) in EDGES.iter().zip(self.edges) {
+            writeln!(to, "  {:<23} {inside:>7} {outside:>9}", edge.name)?;
+        }
+        writeln!(to, "accepted files with               files")?;
+        for ((name, _), count) in FEATURES.iter().zip(self.features) {
+            writeln!(to, "  {name:<30} {count:>6}")?;
+        }
+        writeln!(to, "calls of row: {}", self.row_calls)?;
+        writeln!(to, "calls of next station: {}", self.next_calls)?;
+        writeln!(to, "calls of list: {}", self.list_calls)?;
+        writeln!(to, "runs of the listing program: {}", self.listing_runs)?;
+        writeln!(
+            to,
+            "lists in parts, from 0 to the end: {}",
+            self.whole_lists
+        )?;
+        writeln!(to, "rows of these lists: {}", self.listed_rows)?;
+        writeln!(to, "rows of the longest: {}", self.longest_list)?;
+        write!(to, "places of the blade: {}", self.blade_places)
+    }
+}

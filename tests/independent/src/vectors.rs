@@ -1,0 +1,74 @@
+//! The reference against files with known answers.
+
+use std::fs;
+use std::path::Path;
+
+use crate::hexadecimal;
+use crate::reference::machine::{self, Answer};
+
+/// Checks NNNN.in against NNNN.out and NNNN.run; the count of files, and those that differ.
+pub fn check(directory: &Path) -> std::io::Result<(usize, Vec<(String, String)>)> {
+    let mut paths: Vec<_> = fs::read_dir(directory)?
+        .filter_map(|entry| entry.ok().map(|entry| entry.path()))
+        .filter(|path| path.extension().is_some_and(|extension| extension == "in"))
+        .collect();
+    paths.sort();
+    let mut differing = Vec::new();
+    for path in &paths {
+        let file = fs::read(path)?;
+        let list = fs::read_to_string(path.with_extension("out"))?;
+        let run = fs::read_to_string(path.with_extension("run"))?;
+        let compared = if machine::printed_list(&file) == list {
+            check_run(&file, &run)
+        } else {
+            Err("the printed list differs".to_string())
+        };
+        if let Err(difference) = compared {
+            differing.push((path.display().to_string(), difference));
+        }
+    }
+    Ok((paths.len(), differing))
+}
+
+/// One run: the first buffer, then each call with its answer and the buffer after it.
+fn check_run(file: &[u8], run: &str) -> Result<(), String> {
+    let mut lines = run.lines();
+    let first = lines.next().and_then(|line| line.strip_prefix("buffer"));
+    let mut buffer = first
+        .and_then(|text| hexadecimal::read(text.trim()))
+        .ok_or("no first buffer")?;
+    for line in lines {
+        let (call, rest) = line.split_once(": ").ok_or("a line without a call")?;
+        let (_, after) = rest.split_once('|').ok_or("a line without a buffer")?;
+        let (routine, station) = call.split_once(' ').ok_or("a call without a station")?;
+        let station: u64 = station.parse().map_err(|_| "a station that is no number")?;
+        let answer = match routine {
+            "row" => machine::row(file, station, &mut buffer),
+            "next" => machine::next_station(file, station),
+            _ => return Err(format!("unknown call {call}")),
+        };
+        let ours = format!(
+            "{call}: {} | {}",
+            text(&answer),
+            hexadecimal::write(&buffer)
+        );
+        let theirs = format!(
+            "{call}: {} | {}",
+            rest[..rest.len() - after.len() - 1].trim(),
+            after.trim()
+        );
+        if ours != theirs {
+            return Err(format!("expected {theirs}, the reference gives {ours}"));
+        }
+    }
+    Ok(())
+}
+
+fn text(answer: &Answer) -> String {
+    match answer {
+        Answer::Refused(refusal) => format!("R {} {}", refusal.number, refusal.place),
+        Answer::Line(length) => format!("len {length}"),
+        Answer::Station(station) => format!("station {station}"),
+        Answer::NoStation => "none".to_string(),
+    }
+}
