@@ -1,10 +1,14 @@
 -- The answers as numbers: what a call returns, and what it leaves in the numbers it was lent.
-use mathlib.Core.Path.{_≡_, ap}
+use mathlib.Core.Path.{_≡_, sym, ap, _∙_}
+use mathlib.Core.List.{List}
 use Prim.Native.Nat.{ℕ}
-use Rattle.road.specs.Machine.{Answer, refusal, wrote, station, noStation}
+use Rattle.road.specs.Machine.{Answer, refusal, wrote, station, noStation, ofRow, ofNext}
+use Rattle.road.specs.declared.RowAnswer.{RowAnswer}
+use Rattle.road.specs.declared.NextAnswer.{NextAnswer}
 use Rattle.walk.specs.declared.Onward.{Onward}
 use Rattle.walk.specs.declared.Onward.the-variants as onwards
-use Rattle.listing.specs.Chunks.{Listed, turnedAway, part}
+use Rattle.listing.specs.Chunks.{Listed, turnedAway, part, ofList}
+use Rattle.listing.specs.declared.ListAnswer.{ListAnswer}
 
 -- stands for "there is none": all 64 bits set
 abbrev pub none : ℕ
@@ -44,9 +48,12 @@ abbrev pub nextIn : Listed → ℕ
 nextIn (turnedAway n p) = none
 nextIn (part c) = goesOn (c .next)
 
--- ---- equal answers have equal numbers
-pub numbers-of : {a b : Answer} → a ≡ b → (numberOf a ≡ numberOf b) × (answerOf a ≡ answerOf b)
-numbers-of e = (ap numberOf e, ap answerOf e)
+-- ---- the case that a match has taken has the numbers of the answer
+pub row-said : {given taken : RowAnswer} {a : Answer} {l m : List ℕ} → given ≡ taken → (ofRow given ≡ a) × (l ≡ m) → (numberOf (ofRow taken) ≡ numberOf a) × ((answerOf (ofRow taken) ≡ answerOf a) × (l ≡ m))
+row-said e g = let q = sym (ap ofRow e) ∙ g .0 in (ap numberOf q, (ap answerOf q, g .1))
 
-pub numbers-in : {a b : Listed} → a ≡ b → (numberIn a ≡ numberIn b) × (answerIn a ≡ answerIn b) × (nextIn a ≡ nextIn b)
-numbers-in e = (ap numberIn e, ap answerIn e, ap nextIn e)
+pub next-said : {given taken : NextAnswer} {a : Answer} → given ≡ taken → ofNext given ≡ a → (numberOf (ofNext taken) ≡ numberOf a) × (answerOf (ofNext taken) ≡ answerOf a)
+next-said e g = let q = sym (ap ofNext e) ∙ g in (ap numberOf q, ap answerOf q)
+
+pub list-said : {given taken : ListAnswer} {a : Listed} {l m : List ℕ} → given ≡ taken → (ofList given ≡ a) × (l ≡ m) → (numberIn (ofList taken) ≡ numberIn a) × ((answerIn (ofList taken) ≡ answerIn a) × ((nextIn (ofList taken) ≡ nextIn a) × (l ≡ m)))
+list-said e g = let q = sym (ap ofList e) ∙ g .0 in (ap numberIn q, (ap answerIn q, (ap nextIn q, g .1)))
