@@ -19,6 +19,9 @@
 
 use std::fmt;
 
+#[cfg(not(target_arch = "x86_64"))]
+compile_error!("the proved library is for x86-64");
+
 /// A line needs no more bytes than this; a shorter buffer is refused with 20.
 pub const LINE_LENGTH: usize = 96;
 
