@@ -44,9 +44,9 @@ unfoldable pub listBuffer : List ℕ → (station : ℕ) → List ℕ → List �
 listBuffer f s b = rowsOn s b (accepted f)
 
 -- ---- laws
-pub record ListGives (r : Road) (s : ℕ) (b : List ℕ) (given : Listed) (left : List ℕ) : Type 0 where
+pub record ListGives (r : Road) (s : ℕ) (b : List ℕ) (given : Listed) (final : List ℕ) : Type 0 where
   pub answered : given ≡ listOn s (length b) (got r 0)
-  pub buffer : left ≡ rowsOn s b (got r 0)
+  pub buffer : final ≡ rowsOn s b (got r 0)
 
 module _ (r : Road) (s : ℕ) (b : List ℕ) where
   pub list-short : length b < 96 → ListGives r s b (turnedAway 20 0) b
@@ -56,7 +56,7 @@ module _ (r : Road) (s : ℕ) (b : List ℕ) where
   list-part h = record { answered = rw (le-ltb (length b) 96 h); buffer = rw (le-ltb (length b) 96 h) }
 
 module _ (f : List ℕ) (s : ℕ) (b : List ℕ) where
-  pub list-accepted : (r : Road) (end : ℕ) {given : Listed} {left : List ℕ} → got r end ≡ accepted f → (given ≡ listOn s (length b) (got r 0)) × (left ≡ rowsOn s b (got r 0)) → (given ≡ listAnswer f s (length b)) × (left ≡ listBuffer f s b)
+  pub list-accepted : (r : Road) (end : ℕ) {given : Listed} {final : List ℕ} → got r end ≡ accepted f → (given ≡ listOn s (length b) (got r 0)) × (final ≡ rowsOn s b (got r 0)) → (given ≡ listAnswer f s (length b)) × (final ≡ listBuffer f s b)
   unfolding listAnswer listBuffer
   list-accepted r end e g = (g .0 ∙ ap (listOn s (length b)) e, g .1 ∙ ap (rowsOn s b) e)
 

@@ -89,7 +89,7 @@ module _ (f : List ℕ) (s : ℕ) (b : List ℕ) where
       ap (λ (g : Got Road). take (length t) (rowsOn s b g)) w ∙ rw (le-ltb (length b) 96 h) (take-append-seam t (drop (length t) b))
 
   -- the lines from s on are the part's and those of the stations left
-  lines : (r : Road) → joined (line r) (notBelow s (listed r)) ≡ chunk r s (length b) .text ++ joined (line r) (chunk r s (length b) .left)
+  lines : (r : Road) → joined (line r) (notBelow s (listed r)) ≡ chunk r s (length b) .text ++ joined (line r) (chunk r s (length b) .remaining)
   unfolding chunk
   lines r = fit-whole (line r) (length b) (notBelow s (listed r))
 
@@ -100,7 +100,7 @@ module _ (f : List ℕ) (s : ℕ) (b : List ℕ) where
       let r = p .road in
       let G = guaranteed f r (p .end) (p .was) in
       let n : bytes ≡ length (chunk r s (length b) .text) = ap (λ (c : Chunk). c .bytes) (p .given) in
-      let o : onward (chunk r s (length b) .left) ≡ From t = sym (ap (λ (c : Chunk). c .next) (p .given)) in
+      let o : onward (chunk r s (length b) .remaining) ≡ From t = sym (ap (λ (c : Chunk). c .next) (p .given)) in
       let T = G .whole .high in
       record {
         fits = omega (arith, n, chunk-fits G s (length b));
@@ -121,7 +121,7 @@ module _ (f : List ℕ) (s : ℕ) (b : List ℕ) where
       let r = p .road in
       let G = guaranteed f r (p .end) (p .was) in
       let n : bytes ≡ length (chunk r s (length b) .text) = ap (λ (c : Chunk). c .bytes) (p .given) in
-      let o : chunk r s (length b) .left ≡ [] = done-left (chunk r s (length b) .left) (sym (ap (λ (c : Chunk). c .next) (p .given))) in
+      let o : chunk r s (length b) .remaining ≡ [] = done-left (chunk r s (length b) .remaining) (sym (ap (λ (c : Chunk). c .next) (p .given))) in
       record {
         fits = omega (arith, n, chunk-fits G s (length b));
         whole =

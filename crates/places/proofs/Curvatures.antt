@@ -57,8 +57,8 @@ module _ {r : Road} (G : Guaranteed r) where
   pub straight-curved : (i : ℕ) → elementOf r i .kind ≡ 0 → Curved r i straightBend
   straight-curved i e = record {
     value = λ y o. straight-curvature (G .accepted-as) i y o (eq-eqb (elementOf r i .kind) 0 e) then record {
-      left = omega arith;
-      right = omega arith;
+      defined = omega arith;
+      other-defined = omega arith;
       same = ring ((from elementStart r i to y) ∷ []) (# 0 :* # 1) ((# 0 :+ # 0 :* $ 0) :* # 1) tt;
     };
     bend-size = omega arith;
@@ -77,8 +77,8 @@ module _ {r : Road} (G : Guaranteed r) where
       let t = turned-size R in
       record {
         value = λ y o. arc-curvature (G .accepted-as) i y o (eq-eqb (elementOf r i .kind) 1 e) then rw (bend-is R) (record {
-          left = omega arith;
-          right = omega arith;
+          defined = omega arith;
+          other-defined = omega arith;
           same = ring (turned R ∷ pos (natAbs R) ∷ (from elementStart r i to y) ∷ []) ($ 0 :* $ 1) (($ 0 :+ # 0 :* $ 2) :* $ 1) tt;
         });
         bend-size = omega arith;
@@ -106,15 +106,15 @@ module _ {r : Road} (G : Guaranteed r) where
     -- (10⁹ / R) × (d / L), and the same with the distance to the other end
     in-value : (d : ℤ) → bend R ×ᶠ (d ÷ L) ≈ᶠ (pos 0 +ℤ turned R *ℤ d) ÷ (natAbs R * L)
     in-value d = rw (bend-is R) (record {
-      left = span-positive;
-      right = span-positive;
+      defined = span-positive;
+      other-defined = span-positive;
       same = ring (turned R ∷ d ∷ pos (natAbs R) ∷ pos L ∷ []) (($ 0 :* $ 1) :* ($ 2 :* $ 3)) ((# 0 :+ $ 0 :* $ 1) :* ($ 2 :* $ 3)) tt;
     })
 
     out-value : (d u : ℤ) → u ≡ pos L -ℤ d → bend R ×ᶠ (u ÷ L) ≈ᶠ (turned R *ℤ pos L +ℤ (pos 0 -ℤ turned R) *ℤ d) ÷ (natAbs R * L)
     out-value d u e = rw (bend-is R, e) (record {
-      left = span-positive;
-      right = span-positive;
+      defined = span-positive;
+      other-defined = span-positive;
       same = ring (turned R ∷ d ∷ pos (natAbs R) ∷ pos L ∷ []) (($ 0 :* ($ 3 :- $ 1)) :* ($ 2 :* $ 3)) (($ 0 :* $ 3 :+ (# 0 :- $ 0) :* $ 1) :* ($ 2 :* $ 3)) tt;
     })
 

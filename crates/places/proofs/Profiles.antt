@@ -98,7 +98,7 @@ module _ {r : Road} (G : Guaranteed r) where
     unfolding heightIn tangentHeight startHeight heightStart
     straight-height i y s l =
         height-straight (G .facts-of) i y l (on-straight s l)
-        then record { left = tangent-positive r i y; right = omega arith; same = level (heightStart r i) (tangentOf r i .grade) (from tangentStart r i to y) }
+        then record { defined = tangent-positive r i y; other-defined = omega arith; same = level (heightStart r i) (tangentOf r i .grade) (from tangentStart r i to y) }
 
     -- the distance past the curve's start
     curve-past : (i y : ℕ) → i < vertexCount r → (from straightEnd r i to y) ≡ past r i y
@@ -120,8 +120,8 @@ module _ {r : Road} (G : Guaranteed r) where
         rw (ne-eqb h 0 (λ (z : h ≡ 0). omega arith), curve-past i y (s .place))
         (height-curve (G .facts-of) i y (on-curve s)
         then record {
-          left = curve-positive r i y p;
-          right = omega arith;
+          defined = curve-positive r i y p;
+          other-defined = omega arith;
           same = bowed (heightStart r i) (tangentOf r i .grade) (gradeChange r i) (past r i y) (from tangentStart r i to y) (tangentOf r i .length - h) h (ahead i y (s .place));
         })
 
@@ -139,7 +139,7 @@ module _ {r : Road} (G : Guaranteed r) where
         let h = halfLength r i in
         let p = s .long in
         rw (ne-eqb h 0 (λ (z : h ≡ 0). omega arith), curve-past i y (s .place))
-        (grade-curve (G .facts-of) (G .level-vertex) i y (on-curve s) then record { left = omega arith; right = omega arith; same = graded (tangentOf r i .grade) (gradeChange r i) (past r i y) h })
+        (grade-curve (G .facts-of) (G .level-vertex) i y (on-curve s) then record { defined = omega arith; other-defined = omega arith; same = graded (tangentOf r i .grade) (gradeChange r i) (past r i y) h })
 
     pub piece-grade : {p : Piece} {y : ℕ} → PieceAt r p y → y ≤ total r → grade r y ≈ᶠ gradeIn (stretchOf p q b e lane) y
     piece-grade {p} {y} (straight i w s) l = subst (λ (p : Piece). grade r y ≈ᶠ gradeIn (stretchOf p q b e lane) y) (sym w) (straight-grade i y s l)

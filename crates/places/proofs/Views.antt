@@ -88,8 +88,8 @@ module _ {r : Road} (G : Guaranteed r) where
 
     side-value : (d : Side) → crossfallBy d r k y ≈ᶠ crossfallIn d here y
     unfolding crossfallBy crossfallIn
-    side-value left = let h = apart in rw span-is (record { left = omega arith; right = omega arith; same = over (pointOf r k .left) (pointOf r (suc k) .left) (from pointStation r k to y) (pointStation r (suc k) - pointStation r k) })
-    side-value right = let h = apart in rw span-is (record { left = omega arith; right = omega arith; same = over (pointOf r k .right) (pointOf r (suc k) .right) (from pointStation r k to y) (pointStation r (suc k) - pointStation r k) })
+    side-value left = let h = apart in rw span-is (record { defined = omega arith; other-defined = omega arith; same = over (pointOf r k .left) (pointOf r (suc k) .left) (from pointStation r k to y) (pointStation r (suc k) - pointStation r k) })
+    side-value right = let h = apart in rw span-is (record { defined = omega arith; other-defined = omega arith; same = over (pointOf r k .right) (pointOf r (suc k) .right) (from pointStation r k to y) (pointStation r (suc k) - pointStation r k) })
 
     crossfall-is : (d : Side) → crossfall d r y ≈ᶠ crossfallIn d here y
     crossfall-is d = crossfall-between (G .facts-of) d k y B then side-value d

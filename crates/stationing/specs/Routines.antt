@@ -29,9 +29,9 @@ overwritten {b} {a} {x} {r} w =
     (w .end ∙ e, w .bytes ∙ ap (λ (n : ℕ). x ++ drop n b) e)
 
 -- what a row call answers, and what it leaves in the buffer
-pub record RowGives (r : Road) (s : ℕ) (b : List ℕ) (answer : Answer) (left : List ℕ) : Type 0 where
+pub record RowGives (r : Road) (s : ℕ) (b : List ℕ) (answer : Answer) (final : List ℕ) : Type 0 where
   pub answered : answer ≡ rowOn s (length b) (got r 0)
-  pub buffer : left ≡ bufferOn s b (got r 0)
+  pub buffer : final ≡ bufferOn s b (got r 0)
 
 module _ (r : Road) (s : ℕ) (b : List ℕ) where
   -- 20
@@ -47,7 +47,7 @@ module _ (r : Road) (s : ℕ) (b : List ℕ) where
 
 -- the answers of an accepted file do not look at where it ended; a refused one keeps its refusal
 module _ (f : List ℕ) (s : ℕ) where
-  pub row-accepted : (b : List ℕ) (r : Road) (end : ℕ) {answer : Answer} {left : List ℕ} → got r end ≡ accepted f → (answer ≡ rowOn s (length b) (got r 0)) × (left ≡ bufferOn s b (got r 0)) → (answer ≡ rowAnswer f s (length b)) × (left ≡ rowBuffer f s b)
+  pub row-accepted : (b : List ℕ) (r : Road) (end : ℕ) {answer : Answer} {final : List ℕ} → got r end ≡ accepted f → (answer ≡ rowOn s (length b) (got r 0)) × (final ≡ bufferOn s b (got r 0)) → (answer ≡ rowAnswer f s (length b)) × (final ≡ rowBuffer f s b)
   unfolding rowAnswer rowBuffer
   row-accepted b r end e g = (g .0 ∙ ap (rowOn s (length b)) e, g .1 ∙ ap (bufferOn s b) e)
 

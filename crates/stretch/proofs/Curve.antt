@@ -11,7 +11,7 @@ use mir.Val.{SFits}
 use Rattle.integers.specs.Bridge.{nat, _⊕_, _⊗_, le!, lt!, abs-add, abs-mul, abs-product}
 use Rattle.integers.specs.Ring.{_:+_, _:*_, #, ring, $}
 use Rattle.integers.specs.Fraction.{_÷_}
-use Rattle.integers.specs.Rounding.{floor, left, round, rounded, left-small}
+use Rattle.integers.specs.Rounding.{floor, remainder, round, rounded, remainder-small}
 use Rattle.integers.specs.Width.{fits64, divisor, above-zero, parts-sum, small-parts, RoundParts}
 use Rattle.stretch.specs.Sizes.{InCurve}
 use Rattle.stretch.proofs.Laws.{times-low, floor-small}
@@ -56,9 +56,9 @@ module _ {line change half u : ℤ} (p : InCurve 27240000000000 line change half
     pub top-fits : SFits w64 (line +ℤ f)
     top-fits = fits64 (line +ℤ f) (omega (arith, top-small))
 
-    module _ {part : ℤ} (e-part : part ≡ pos (left (line +ℤ f) 1000000)) where
+    module _ {part : ℤ} (e-part : part ≡ pos (remainder (line +ℤ f) 1000000)) where
       part-small : natAbs part ≤ 999999
-      part-small = rw e-part (omega (arith, left-small (line +ℤ f) 1000000 (omega arith)))
+      part-small = rw e-part (omega (arith, remainder-small (line +ℤ f) 1000000 (omega arith)))
 
       part-k-small : natAbs (part *ℤ (pos 4 *ℤ half)) ≤ 999999 * 4000000
       part-k-small = abs-product part (pos 4 *ℤ half) part-small k-small
@@ -66,9 +66,9 @@ module _ {line change half u : ℤ} (p : InCurve 27240000000000 line change half
       pub part-k-fits : SFits w64 (part *ℤ (pos 4 *ℤ half))
       part-k-fits = fits64 (part *ℤ (pos 4 *ℤ half)) (omega (arith, part-k-small))
 
-      module _ {rest : ℤ} (e-rest : rest ≡ pos (left (change *ℤ (u *ℤ u)) (natAbs (pos 4 *ℤ half)))) where
+      module _ {rest : ℤ} (e-rest : rest ≡ pos (remainder (change *ℤ (u *ℤ u)) (natAbs (pos 4 *ℤ half)))) where
         rest-below : natAbs rest < natAbs (pos 4 *ℤ half)
-        rest-below = rw e-rest (left-small (change *ℤ (u *ℤ u)) (natAbs (pos 4 *ℤ half)) (above-zero (pos 4 *ℤ half) k-low))
+        rest-below = rw e-rest (remainder-small (change *ℤ (u *ℤ u)) (natAbs (pos 4 *ℤ half)) (above-zero (pos 4 *ℤ half) k-low))
 
         pub m-fits : SFits w64 (part *ℤ (pos 4 *ℤ half) +ℤ rest)
         m-fits = fits64 (part *ℤ (pos 4 *ℤ half) +ℤ rest) (omega (arith, abs-add (part *ℤ (pos 4 *ℤ half)) rest, part-k-small, rest-below, k-small))
@@ -77,10 +77,10 @@ module _ {line change half u : ℤ} (p : InCurve 27240000000000 line change half
           pub height-parts : RoundParts q (part *ℤ (pos 4 *ℤ half) +ℤ rest) (pos 4 *ℤ half *ℤ pos 1000000)
           height-parts =
               let k = natAbs (pos 4 *ℤ half) in
-              let a = left (line +ℤ f) 1000000 in
-              let b = left (change *ℤ (u *ℤ u)) k in
-              let i : a < 1000000 = left-small (line +ℤ f) 1000000 (omega arith) in
-              let j : b < k = left-small (change *ℤ (u *ℤ u)) k (above-zero (pos 4 *ℤ half) k-low) in
+              let a = remainder (line +ℤ f) 1000000 in
+              let b = remainder (change *ℤ (u *ℤ u)) k in
+              let i : a < 1000000 = remainder-small (line +ℤ f) 1000000 (omega arith) in
+              let j : b < k = remainder-small (change *ℤ (u *ℤ u)) k (above-zero (pos 4 *ℤ half) k-low) in
               let m : a * k ≤ 999999 * k = mul-le-mul-right k (omega arith) in
               rw (e-part, e-rest, divisor (pos 4 *ℤ half) k-low) (small-parts
               (le! (nat 0) (nat a ⊗ nat k ⊕ nat b) (omega arith))

@@ -37,7 +37,7 @@ module _ (k m : ℕ) (part : k ≤ m) (above : 0 < m) where
   -- the printed height, measured from them
   near-value : {d : Side} {r : Road} {H : Frac} {j s : ℕ} → SurfaceBy d r H j s → size (printedSurface k m d r s -ᶠ (H +ᶠ dropBy k m d r j s)) ≤ᶠ whole (pos 1)
   unfolding printedSurface
-  near-value {d} {r} {H} {j} {s} e = far-value (printedSurface k m d r s) (whole (pos 1)) (omega arith) (surface-value e) (printed-near k m part above d r s (e .heights .left) (e .drops .left))
+  near-value {d} {r} {H} {j} {s} e = far-value (printedSurface k m d r s) (whole (pos 1)) (omega arith) (surface-value e) (printed-near k m part above d r s (e .heights .defined) (e .drops .defined))
 
   module _ {r : Road} (F : Facts r) (d : Side) (a s t : ℕ) (long : 0 < s + t) (end : a + s + t ≤ total r) (n : Neighbouring r a (a + s + t)) where
     abbrev P : ℤ
@@ -67,7 +67,7 @@ module _ (k m : ℕ) (part : k ≤ m) (above : 0 < m) where
         let i = S .index in
         let e : (x : ℕ) → a ≤ x → x ≤ a + s + t → SurfaceBy d r (tangentHeight r i x) j x = λ x l u. record { heights = height-straight F i x (omega arith) (S .on x l u); drops = drop-value x l u } in
         let c : ℕ = dropBy k m d r j a .den in
-        let pc : 0 < c = positive-mul _ m (drop-value a (omega arith) (omega arith) .right) above in
+        let pc : 0 < c = positive-mul _ m (drop-value a (omega arith) (omega arith) .other-defined) above in
         far-value B (whole (pos 1) +ᶠ whole (pos 0)) line-positive (other-way (surface-value (e (a + s) (omega arith) (omega arith))))
         (straight-bound (1 * (1 * m)) a s t (omega arith) long (λ x. (tangentHeight r i x +ᶠ dropBy k m d r j x) .num) P Q (1000000000000 * c) c (omega arith)
         (bends-sum (λ x. tangentHeight r i x .num) (λ x. dropBy k m d r j x .num) 1000000000000 c a s t (pos 0) (tangent-bends r i a s t) (drop-bends k m d r j a s t))
@@ -78,7 +78,7 @@ module _ (k m : ℕ) (part : k ≤ m) (above : 0 < m) where
     in-one-curve i w =
         let e : (x : ℕ) → a ≤ x → x ≤ a + s + t → SurfaceBy d r (curveHeight r i x) j x = λ x l u. record { heights = height-curve F i x (one-curve r a (a + s + t) i w x l u); drops = drop-value x l u } in
         let c : ℕ = dropBy k m d r j a .den in
-        let pc : 0 < c = positive-mul _ m (drop-value a (omega arith) (omega arith) .right) above in
+        let pc : 0 < c = positive-mul _ m (drop-value a (omega arith) (omega arith) .other-defined) above in
         far-value B (whole (pos 1) +ᶠ sagitta r (a + s + t - a) (some i)) line-positive (other-way (surface-value (e (a + s) (omega arith) (omega arith))))
         (curve-bound (1 * (1 * m)) a s t (omega arith) long (λ x. (curveHeight r i x +ᶠ dropBy k m d r j x) .num) P Q (halfLength r i) c (gradeChange r i) (one-curve r a (a + s + t) i w a (omega arith) (omega arith) .long) pc
         (bends-sum (λ x. curveHeight r i x .num) (λ x. dropBy k m d r j x .num) (1000000000000 * (4 * halfLength r i * 1000000)) c a s t (gradeChange r i *ℤ pos 1000000000000) (curve-bends r i a s t) (drop-bends k m d r j a s t))

@@ -33,7 +33,7 @@ out⁻ : {a b c d : ℕ} → (pos a ÷ b) ≤ᶠ (pos c ÷ d) → a * d ≤ c * 
 out⁻ {a} {b} {c} {d} h = leb→le (a * d) (c * b) (h .out .le)
 
 pub out⁺ : {a b c d : ℕ} → 0 < b → 0 < d → a * d ≤ c * b → (pos a ÷ b) ≤ᶠ (pos c ÷ d)
-out⁺ {a} {b} {c} {d} p q h = record { left = p; right = q; out = record { le = le→leb (a * d) (c * b) h } }
+out⁺ {a} {b} {c} {d} p q h = record { defined = p; other-defined = q; out = record { le = le→leb (a * d) (c * b) h } }
 
 -- a printed height p / m and an exact one n / D, over one denominator
 near : (p n : ℤ) (m D : ℕ) → size (p ÷ m -ᶠ n ÷ D) ≤ᶠ whole (pos 1) → natAbs (p *ℤ pos D -ℤ n *ℤ pos m) ≤ m * D

@@ -37,8 +37,8 @@ module _ {r : Road} (P : Placed r) (d : Side) where
   pub pair-first : (i s : ℕ) → suc i < length (r .crossfalls) → s ≡ places r i → crossfallBy d r i s ≈ᶠ whole (crossfallOf d (pointOf r i))
   unfolding crossfallBy
   pair-first i s h e = record {
-    left = by-positive i s h;
-    right = omega arith;
+    defined = by-positive i s h;
+    other-defined = omega arith;
     same = at-first (crossfallOf d (pointOf r i)) (crossfallOf d (pointOf r (suc i))) (from places r i to s) (places r (suc i) - places r i) (none-from (places r i) s e);
   }
 
@@ -47,8 +47,8 @@ module _ {r : Road} (P : Placed r) (d : Side) where
   pair-second i s h e =
       let l = P .ascend i h in
       record {
-        left = by-positive i s h;
-        right = omega arith;
+        defined = by-positive i s h;
+        other-defined = omega arith;
         same = at-second (crossfallOf d (pointOf r i)) (crossfallOf d (pointOf r (suc i))) (from places r i to s) (places r (suc i) - places r i) (ahead-by (places r i) s (places r (suc i) - places r i) (omega arith));
       }
 

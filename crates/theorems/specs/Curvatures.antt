@@ -42,16 +42,16 @@ module _ (S E : Frac) (u : ℤ) (L : ℕ) (pS : 0 < S .den) (pE : 0 < E .den) (p
 
   evenly-start : u ≡ pos 0 → evenly S E u L ≈ᶠ S
   evenly-start e = record {
-    left = evenly-positive;
-    right = pS;
+    defined = evenly-positive;
+    other-defined = pS;
     same = rw e (ring (S .num ∷ E .num ∷ pos (S .den) ∷ pos (E .den) ∷ pos L ∷ [])
         (($ 0 :* ($ 3 :* $ 2 :* $ 4) :+ (($ 1 :* $ 2 :- $ 0 :* $ 3) :* # 0) :* $ 2) :* $ 2) ($ 0 :* ($ 2 :* ($ 3 :* $ 2 :* $ 4))) tt);
   }
 
   evenly-end : u ≡ pos L → evenly S E u L ≈ᶠ E
   evenly-end e = record {
-    left = evenly-positive;
-    right = pE;
+    defined = evenly-positive;
+    other-defined = pE;
     same = rw e (ring (S .num ∷ E .num ∷ pos (S .den) ∷ pos (E .den) ∷ pos L ∷ [])
         (($ 0 :* ($ 3 :* $ 2 :* $ 4) :+ (($ 1 :* $ 2 :- $ 0 :* $ 3) :* $ 4) :* $ 2) :* $ 3) ($ 1 :* ($ 2 :* ($ 3 :* $ 2 :* $ 4))) tt);
   }
@@ -59,16 +59,16 @@ module _ (S E : Frac) (u : ℤ) (L : ℕ) (pS : 0 < S .den) (pE : 0 < E .den) (p
 -- from 0, and to 0
 evenly-in : (E : Frac) (u : ℤ) (L : ℕ) → 0 < E .den → 0 < L → evenly (whole (pos 0)) E u L ≈ᶠ E ×ᶠ (u ÷ L)
 evenly-in E u L pE pL = record {
-  left = evenly-positive (whole (pos 0)) E u L (omega arith) pE pL;
-  right = positive-mul (E .den) L pE pL;
+  defined = evenly-positive (whole (pos 0)) E u L (omega arith) pE pL;
+  other-defined = positive-mul (E .den) L pE pL;
   same = ring (E .num ∷ u ∷ pos (E .den) ∷ pos L ∷ [])
       ((# 0 :* ($ 2 :* # 1 :* $ 3) :+ (($ 0 :* # 1 :- # 0 :* $ 2) :* $ 1) :* # 1) :* ($ 2 :* $ 3)) (($ 0 :* $ 1) :* (# 1 :* ($ 2 :* # 1 :* $ 3))) tt;
 }
 
 evenly-out : (S : Frac) (u w : ℤ) (L : ℕ) → 0 < S .den → 0 < L → w ≡ pos L -ℤ u → evenly S (whole (pos 0)) u L ≈ᶠ S ×ᶠ (w ÷ L)
 evenly-out S u w L pS pL e = record {
-  left = evenly-positive S (whole (pos 0)) u L pS (omega arith) pL;
-  right = positive-mul (S .den) L pS pL;
+  defined = evenly-positive S (whole (pos 0)) u L pS (omega arith) pL;
+  other-defined = positive-mul (S .den) L pS pL;
   same = rw e (ring (S .num ∷ u ∷ pos (S .den) ∷ pos L ∷ [])
       (($ 0 :* (# 1 :* $ 2 :* $ 3) :+ ((# 0 :* $ 2 :- $ 0 :* # 1) :* $ 1) :* $ 2) :* ($ 2 :* $ 3)) (($ 0 :* ($ 3 :- $ 1)) :* ($ 2 :* (# 1 :* $ 2 :* $ 3))) tt);
 }

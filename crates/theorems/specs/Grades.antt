@@ -36,13 +36,13 @@ grades-along r level = record {
   curve-positive = λ i s h. omega arith;
   at-vertex = λ i s h z e. same-value (omega arith) (ap whole (sym (level i h z)));
   at-start = λ i s h l e. record {
-    left = omega arith;
-    right = omega arith;
+    defined = omega arith;
+    other-defined = omega arith;
     same = flat-start (tangentOf r i .grade) (gradeChange r i) (past r i s) (halfLength r i) (none-from (vertex r i) (s + halfLength r i) e);
   };
   at-end = λ i s h l e. record {
-    left = omega arith;
-    right = omega arith;
+    defined = omega arith;
+    other-defined = omega arith;
     same = bent-end (tangentOf r i .grade) (tangentOf r (suc i) .grade) (past r i s) (halfLength r i) (ahead-by (vertex r i) (s + halfLength r i) (halfLength r i + halfLength r i) (omega arith));
   };
 }

@@ -63,8 +63,8 @@ flat-start N c u D K e = rw e (ring (N ∷ c ∷ pos D ∷ pos K ∷ []) (($ 0 :
 pub at-start : (r : Road) (i s : ℕ) → 0 < halfLength r i → s + halfLength r i ≡ vertex r i → curveHeight r i s ≈ᶠ tangentHeight r i s
 unfolding curveHeight
 at-start r i s p e = record {
-  left = curve-positive r i s p;
-  right = tangent-positive r i s;
+  defined = curve-positive r i s p;
+  other-defined = tangent-positive r i s;
   same = flat-start (tangentHeight r i s .num) (gradeChange r i) (past r i s) (tangentHeight r i s .den) (4 * halfLength r i * 1000000) (none-from (vertex r i) (s + halfLength r i) e);
 }
 
@@ -77,8 +77,8 @@ bent-end N M c u w D E h d e p q m = rw (d, e, p, m, q) (ring (N ∷ c ∷ pos h
 pub at-end : (r : Road) (i s : ℕ) → i < length (r .tangents) → 0 < halfLength r i → s ≡ vertex r i + halfLength r i → curveHeight r i s ≈ᶠ tangentHeight r (suc i) s
 unfolding curveHeight
 at-end r i s h p e = record {
-  left = curve-positive r i s p;
-  right = tangent-positive r (suc i) s;
+  defined = curve-positive r i s p;
+  other-defined = tangent-positive r (suc i) s;
   same = bent-end (tangentHeight r i s .num) (tangentHeight r (suc i) s .num) (gradeChange r i) (past r i s) (from vertex r i to s) (tangentHeight r i s .den) (tangentHeight r (suc i) s .den) (halfLength r i)
       (tangent-den r i s) (tangent-den r (suc i) s) (ahead-by (vertex r i) (s + halfLength r i) (halfLength r i + halfLength r i) (omega arith)) (ahead-by (vertex r i) s (halfLength r i) e) (tangent-next r i s h);
 }

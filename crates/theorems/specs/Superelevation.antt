@@ -149,8 +149,8 @@ module _ {r : Road} (P : Placed r) (i : ℕ) (long : elementStart r i < elementS
           let e : j0 + (j1 - j0) ≡ j1 = let q = not-before in omega arith in
           crossfall-by P d j1 s (record { place = omega arith; low = omega arith; high = omega arith })
           then record {
-            left = by-positive P d j1 s (omega arith);
-            right = omega arith;
+            defined = by-positive P d j1 s (omega arith);
+            other-defined = omega arith;
             same = flat-pair (crossfallOf d (pointOf r j1)) (crossfallOf d (pointOf r (suc j1))) (from place j1 to s) (place (suc j1) - place j1) (unchanged j1 p (omega arith) (omega arith) d);
           }
           then same-value (omega arith) (ap (λ (k : ℕ). whole (crossfallOf d (pointOf r k))) (sym e) ∙ ap whole (upto (j1 - j0) (omega arith)))

@@ -11,49 +11,49 @@ use Rattle.listing.specs.Chunks.{Listed, turnedAway, part, ofList}
 use Rattle.listing.specs.declared.ListAnswer.{ListAnswer}
 
 -- stands for "there is none": all 64 bits set
-abbrev pub none : ℕ
-none = 18446744073709551615
+abbrev pub markForNone : ℕ
+markForNone = 18446744073709551615
 
 -- ---- the two routines of document 01
 -- what a call returns: the refusal's number, 0 where there is none
-abbrev pub numberOf : Answer → ℕ
-numberOf (refusal n p) = n
-numberOf (wrote n) = 0
-numberOf (station s) = 0
-numberOf noStation = 0
+abbrev pub returnedNumber : Answer → ℕ
+returnedNumber (refusal n p) = n
+returnedNumber (wrote n) = 0
+returnedNumber (station s) = 0
+returnedNumber noStation = 0
 
 -- what it leaves in `answer`: the refusal's place, the line's length, the station
-abbrev pub answerOf : Answer → ℕ
-answerOf (refusal n p) = p
-answerOf (wrote n) = n
-answerOf (station s) = s
-answerOf noStation = none
+abbrev pub answerNumber : Answer → ℕ
+answerNumber (refusal n p) = p
+answerNumber (wrote n) = n
+answerNumber (station s) = s
+answerNumber noStation = markForNone
 
 -- ---- many rows
-abbrev pub numberIn : Listed → ℕ
-numberIn (turnedAway n p) = n
-numberIn (part c) = 0
+abbrev pub listReturnedNumber : Listed → ℕ
+listReturnedNumber (turnedAway n p) = n
+listReturnedNumber (part c) = 0
 
 -- the refusal's place, or how many bytes were written
-abbrev pub answerIn : Listed → ℕ
-answerIn (turnedAway n p) = p
-answerIn (part c) = c .bytes
+abbrev pub listAnswerNumber : Listed → ℕ
+listAnswerNumber (turnedAway n p) = p
+listAnswerNumber (part c) = c .bytes
 
 -- the station to go on from
 abbrev pub goesOn : Onward → ℕ
 goesOn (onwards.From s) = s
-goesOn onwards.Done = none
+goesOn onwards.Done = markForNone
 
-abbrev pub nextIn : Listed → ℕ
-nextIn (turnedAway n p) = none
-nextIn (part c) = goesOn (c .next)
+abbrev pub listNextNumber : Listed → ℕ
+listNextNumber (turnedAway n p) = markForNone
+listNextNumber (part c) = goesOn (c .next)
 
 -- ---- the case that a match has taken has the numbers of the answer
-pub row-said : {given taken : RowAnswer} {a : Answer} {l m : List ℕ} → given ≡ taken → (ofRow given ≡ a) × (l ≡ m) → (numberOf (ofRow taken) ≡ numberOf a) × ((answerOf (ofRow taken) ≡ answerOf a) × (l ≡ m))
-row-said e g = let q = sym (ap ofRow e) ∙ g .0 in (ap numberOf q, (ap answerOf q, g .1))
+pub row-said : {given taken : RowAnswer} {a : Answer} {l m : List ℕ} → given ≡ taken → (ofRow given ≡ a) × (l ≡ m) → (returnedNumber (ofRow taken) ≡ returnedNumber a) × ((answerNumber (ofRow taken) ≡ answerNumber a) × (l ≡ m))
+row-said e g = let q = sym (ap ofRow e) ∙ g .0 in (ap returnedNumber q, (ap answerNumber q, g .1))
 
-pub next-said : {given taken : NextAnswer} {a : Answer} → given ≡ taken → ofNext given ≡ a → (numberOf (ofNext taken) ≡ numberOf a) × (answerOf (ofNext taken) ≡ answerOf a)
-next-said e g = let q = sym (ap ofNext e) ∙ g in (ap numberOf q, ap answerOf q)
+pub next-said : {given taken : NextAnswer} {a : Answer} → given ≡ taken → ofNext given ≡ a → (returnedNumber (ofNext taken) ≡ returnedNumber a) × (answerNumber (ofNext taken) ≡ answerNumber a)
+next-said e g = let q = sym (ap ofNext e) ∙ g in (ap returnedNumber q, ap answerNumber q)
 
-pub list-said : {given taken : ListAnswer} {a : Listed} {l m : List ℕ} → given ≡ taken → (ofList given ≡ a) × (l ≡ m) → (numberIn (ofList taken) ≡ numberIn a) × ((answerIn (ofList taken) ≡ answerIn a) × ((nextIn (ofList taken) ≡ nextIn a) × (l ≡ m)))
-list-said e g = let q = sym (ap ofList e) ∙ g .0 in (ap numberIn q, (ap answerIn q, (ap nextIn q, g .1)))
+pub list-said : {given taken : ListAnswer} {a : Listed} {l m : List ℕ} → given ≡ taken → (ofList given ≡ a) × (l ≡ m) → (listReturnedNumber (ofList taken) ≡ listReturnedNumber a) × ((listAnswerNumber (ofList taken) ≡ listAnswerNumber a) × ((listNextNumber (ofList taken) ≡ listNextNumber a) × (l ≡ m)))
+list-said e g = let q = sym (ap ofList e) ∙ g .0 in (ap listReturnedNumber q, (ap listAnswerNumber q, (ap listNextNumber q, g .1)))

@@ -28,7 +28,7 @@ use Rattle.walk.specs.declared.Chunk.{Chunk}
 use Rattle.walk.specs.declared.Onward.{Onward}
 use Rattle.walk.specs.declared.Onward.the-variants as onwards
 use Rattle.listing.specs.Chunks.{Listed, turnedAway, part, listOn, listAnswer}
-use Rattle.voardusk.specs.Codes.{none, numberOf, answerOf, numberIn, answerIn, nextIn, goesOn}
+use Rattle.voardusk.specs.Codes.{markForNone, returnedNumber, answerNumber, listReturnedNumber, listAnswerNumber, listNextNumber, goesOn}
 
 -- ---- what a caller reads from the numbers
 abbrev pub rowSaid : (number answer : ℕ) → Answer
@@ -36,11 +36,11 @@ rowSaid zero n = wrote n
 rowSaid (suc k) p = refusal (suc k) p
 
 abbrev pub nextSaid : (number answer : ℕ) → Answer
-nextSaid zero s = if eqb s none then noStation else station s
+nextSaid zero s = if eqb s markForNone then noStation else station s
 nextSaid (suc k) p = refusal (suc k) p
 
 abbrev pub listSaid : (number answer next : ℕ) → Listed
-listSaid zero n s = part (record { bytes = n; next = if eqb s none then onwards.Done else onwards.From s })
+listSaid zero n s = part (record { bytes = n; next = if eqb s markForNone then onwards.Done else onwards.From s })
 listSaid (suc k) p s = turnedAway (suc k) p
 
 -- ---- it is the answer
@@ -65,18 +65,18 @@ list-refusal zero p s h = absurd (omega arith)
 list-refusal (suc k) p s h = refl
 
 -- a station of a road is not the mark
-not-mark : (s : ℕ) → s ≤ 100000000 → eqb s none ≡ false
-not-mark s h = ne-eqb s none (λ e. omega arith)
+not-mark : (s : ℕ) → s ≤ 100000000 → eqb s markForNone ≡ false
+not-mark s h = ne-eqb s markForNone (λ e. omega arith)
 
 -- the numbers of an answer, read
 abbrev RowBack : Answer → Type 0
-RowBack a = rowSaid (numberOf a) (answerOf a) ≡ a
+RowBack a = rowSaid (returnedNumber a) (answerNumber a) ≡ a
 
 abbrev NextBack : Answer → Type 0
-NextBack a = nextSaid (numberOf a) (answerOf a) ≡ a
+NextBack a = nextSaid (returnedNumber a) (answerNumber a) ≡ a
 
 abbrev ListBack : Listed → Type 0
-ListBack a = listSaid (numberIn a) (answerIn a) (nextIn a) ≡ a
+ListBack a = listSaid (listReturnedNumber a) (listAnswerNumber a) (listNextNumber a) ≡ a
 
 pub row-read-back : (f : List ℕ) (s room : ℕ) → RowBack (rowAnswer f s room)
 unfolding rowAnswer
@@ -110,7 +110,7 @@ pub list-read-back : (f : List ℕ) (s room : ℕ) → ListBack (listAnswer f s 
 unfolding listAnswer
 list-read-back f s room = go (accepted f) refl
   where
-    of : {r : Road} → Guaranteed r → (o : Onward) → onward (chunk r s room .left) ≡ o → (n : ℕ) → ListBack (part (record { bytes = n; next = o }))
+    of : {r : Road} → Guaranteed r → (o : Onward) → onward (chunk r s room .remaining) ≡ o → (n : ℕ) → ListBack (part (record { bytes = n; next = o }))
     of {r} G (onwards.From t) e n =
         let T = G .whole .high in
         let h : t ≤ total r = listed-inside G (onward-listed G s room t e) in
@@ -119,8 +119,8 @@ list-read-back f s room = go (accepted f) refl
 
     by : {r : Road} → Guaranteed r → (short : Bool) → ListBack (if short then turnedAway 20 0 else part (answer (chunk r s room)))
     by G true = refl
-    by {r} G false = of G (onward (chunk r s room .left)) refl (length (chunk r s room .text))
+    by {r} G false = of G (onward (chunk r s room .remaining)) refl (length (chunk r s room .text))
 
     go : (g : Got Road) → accepted f ≡ g → ListBack (listOn s room g)
-    go (refused n p) e = list-refusal n p none (number-above f n p e)
+    go (refused n p) e = list-refusal n p markForNone (number-above f n p e)
     go (got r end) e = by (guaranteed f r end e) (ltb room 96)

@@ -4,7 +4,7 @@ ghost use mathlib.Core.Path.{_≡_};
 ghost use lib.ListN.{length};
 ghost use Rattle.road.specs.Machine.{rowAnswer, rowBuffer, nextAnswer};
 ghost use Rattle.listing.specs.Chunks.{listAnswer, listBuffer};
-ghost use Rattle.voardusk.specs.Codes.{numberOf, answerOf, numberIn, answerIn, nextIn};
+ghost use Rattle.voardusk.specs.Codes.{returnedNumber, answerNumber, listReturnedNumber, listAnswerNumber, listNextNumber};
 use listing::ListAnswer;
 use road::NextAnswer;
 use road::RowAnswer;
@@ -15,8 +15,8 @@ pub const NO_STATION: u64 = 18446744073709551615;
 // The line of a station over the first bytes of the buffer, its length in `answer`.
 #[no_mangle]
 pub extern "C" fn voardusk_row(file: &[u8], station: u64, line: &mut [u8], answer: &mut u64) -> u32
-    ensures { λ r. ⌜ r ≡ numberOf (rowAnswer (now (file .entry)) station (length (now (line .entry)))) ⌝ }
-    ensures { λ _. ⌜ now (answer .exit) ≡ answerOf (rowAnswer (now (file .entry)) station (length (now (line .entry)))) ⌝ }
+    ensures { λ r. ⌜ r ≡ returnedNumber (rowAnswer (now (file .entry)) station (length (now (line .entry)))) ⌝ }
+    ensures { λ _. ⌜ now (answer .exit) ≡ answerNumber (rowAnswer (now (file .entry)) station (length (now (line .entry)))) ⌝ }
     ensures { λ _. ⌜ now (line .exit) ≡ rowBuffer (now (file .entry)) station (now (line .entry)) ⌝ }
 {
     match stationing::row(file, station, line) {
@@ -34,8 +34,8 @@ pub extern "C" fn voardusk_row(file: &[u8], station: u64, line: &mut [u8], answe
 // The least listed station not below a station in `answer`, or NO_STATION.
 #[no_mangle]
 pub extern "C" fn voardusk_next_station(file: &[u8], station: u64, answer: &mut u64) -> u32
-    ensures { λ r. ⌜ r ≡ numberOf (nextAnswer (now (file .entry)) station) ⌝ }
-    ensures { λ _. ⌜ now (answer .exit) ≡ answerOf (nextAnswer (now (file .entry)) station) ⌝ }
+    ensures { λ r. ⌜ r ≡ returnedNumber (nextAnswer (now (file .entry)) station) ⌝ }
+    ensures { λ _. ⌜ now (answer .exit) ≡ answerNumber (nextAnswer (now (file .entry)) station) ⌝ }
 {
     match stationing::next_station(file, station) {
         NextAnswer::Refused(number, place) => {
@@ -62,9 +62,9 @@ pub extern "C" fn voardusk_list(
     answer: &mut u64,
     next: &mut u64,
 ) -> u32
-    ensures { λ r. ⌜ r ≡ numberIn (listAnswer (now (file .entry)) station (length (now (out .entry)))) ⌝ }
-    ensures { λ _. ⌜ now (answer .exit) ≡ answerIn (listAnswer (now (file .entry)) station (length (now (out .entry)))) ⌝ }
-    ensures { λ _. ⌜ now (next .exit) ≡ nextIn (listAnswer (now (file .entry)) station (length (now (out .entry)))) ⌝ }
+    ensures { λ r. ⌜ r ≡ listReturnedNumber (listAnswer (now (file .entry)) station (length (now (out .entry)))) ⌝ }
+    ensures { λ _. ⌜ now (answer .exit) ≡ listAnswerNumber (listAnswer (now (file .entry)) station (length (now (out .entry)))) ⌝ }
+    ensures { λ _. ⌜ now (next .exit) ≡ listNextNumber (listAnswer (now (file .entry)) station (length (now (out .entry)))) ⌝ }
     ensures { λ _. ⌜ now (out .exit) ≡ listBuffer (now (file .entry)) station (now (out .entry)) ⌝ }
 {
     *next = NO_STATION;

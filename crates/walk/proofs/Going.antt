@@ -14,11 +14,11 @@ use Rattle.walk.specs.declared.Chunk.{Chunk}
 pub record Going (p : Part) (z y : List ℕ) (at end : ℕ) (q : Part) : Type 0 where
   pub done : List ℕ
   pub wrote : Wrote z y at done end
-  pub left : p ≡ before done q
+  pub whole : p ≡ before done q
   pub room : end ≤ length z
 
 pub going-starts : (p : Part) (z : List ℕ) (at : ℕ) → at ≤ length z → Going p z z at at p
-going-starts p z at h = record { done = []; wrote = wrote-none z at h; left = refl; room = h }
+going-starts p z at h = record { done = []; wrote = wrote-none z at h; whole = refl; room = h }
 
 module _ {p : Part} {z y : List ℕ} {at end : ℕ} {q : Part} (g : Going p z y at end q) where
   done-fits : at + length (g .done) ≤ length z
@@ -32,7 +32,7 @@ module _ {p : Part} {z y : List ℕ} {at end : ℕ} {q : Part} (g : Going p z y 
   going-on {t = t} {q′ = q′} w e r = record {
     done = g .done ++ t;
     wrote = wrote-append (g .wrote) w done-fits;
-    left = g .left ∙ ap (before (g .done)) e ∙ before-before (g .done) t q′;
+    whole = g .whole ∙ ap (before (g .done)) e ∙ before-before (g .done) t q′;
     room = r;
   }
 
@@ -46,10 +46,10 @@ module _ {p : Part} {z y : List ℕ} {at end : ℕ} {q : Part} (g : Going p z y 
   -- no row more
   module _ {stations : List ℕ} (e : q ≡ nothing stations) where
     pub going-text : Wrote z y at (p .text) end
-    going-text = subst (λ (t : List ℕ). Wrote z y at t end) (sym (ap (λ (r : Part). r .text) (g .left ∙ ap (before (g .done)) e) ∙ append-nil (g .done))) (g .wrote)
+    going-text = subst (λ (t : List ℕ). Wrote z y at t end) (sym (ap (λ (r : Part). r .text) (g .whole ∙ ap (before (g .done)) e) ∙ append-nil (g .done))) (g .wrote)
 
-    pub going-left : p .left ≡ stations
-    going-left = ap (λ (r : Part). r .left) (g .left ∙ ap (before (g .done)) e)
+    pub going-left : p .remaining ≡ stations
+    going-left = ap (λ (r : Part). r .remaining) (g .whole ∙ ap (before (g .done)) e)
 
 -- where the bytes were written from 0 on, that is what a chunk answers
 module _ {p : Part} {z y : List ℕ} {end : ℕ} {q : Part} (g : Going p z y 0 end q) {stations : List ℕ} (e : q ≡ nothing stations) where

@@ -74,30 +74,30 @@ module _ {r : Road} (G : Guaranteed r) {v : View} {x : ℕ} (seen : Viewed r v x
     same : rowsThatFit (lineIn (v .stretch)) room S ≡ part
     same = fit-same (lineIn (v .stretch)) (line r) room S (λ z m. line-shows (seen .shows z (ascends-low (stretch-ascends stepped) m) (stretch-below stepped z m) (inside z m)))
 
-    stopped : Stopped x (v .joint) S (part .left)
+    stopped : Stopped x (v .joint) S (part .remaining)
     stopped = fit-stops (line r) (v .joint) room (stretch-ascends stepped) (omega (arith, seen .beyond)) (stretch-below stepped)
 
     -- at least one row was written
-    onward : x < firstOr (v .joint) (part .left)
+    onward : x < firstOr (v .joint) (part .remaining)
     onward = go (stretch-ascends stepped)
       where
         rest : List ℕ
         rest = notBelow (suc x) (multiples (r .step) (v .joint))
 
-        go : Ascends x (x ∷ rest) → x < firstOr (v .joint) (part .left)
+        go : Ascends x (x ∷ rest) → x < firstOr (v .joint) (part .remaining)
         go (step k a) = rw (fit-row (line r) room x rest h) (fit-stops (line r) (v .joint) (room - length (line r x)) a (seen .beyond) (λ z m. stretch-below stepped z (List·Memᴰ·tail m)) .low)
 
     -- what is left: the rest of the stretch, and then from the joint on
-    left-is : part .left ++ notBelow (v .joint) L ≡ notBelow (firstOr (v .joint) (part .left)) L
+    left-is : part .remaining ++ notBelow (v .joint) L ≡ notBelow (firstOr (v .joint) (part .remaining)) L
     left-is =
-        let n = firstOr (v .joint) (part .left) in
+        let n = firstOr (v .joint) (part .remaining) in
         let b = notBelow (v .joint) L in
         ap₂ (λ (l m : List ℕ). l ++ m) (stopped .rest) (sym (from-all n b (λ z m. let k = from-member (v .joint) L m .from in omega (arith, stopped .high))))
         ∙ sym (from-append n S b)
         ∙ ap (notBelow n) (sym cut)
         ∙ from-from x n L (stopped .low)
 
-    rows-left : rowsThatFit (line r) room (notBelow x L) ≡ before (part .text) (rowsThatFit (line r) (room - length (part .text)) (notBelow (firstOr (v .joint) (part .left)) L))
+    rows-left : rowsThatFit (line r) room (notBelow x L) ≡ before (part .text) (rowsThatFit (line r) (room - length (part .text)) (notBelow (firstOr (v .joint) (part .remaining)) L))
     rows-left =
         ap (rowsThatFit (line r) room) cut
         ∙ fit-append (line r) room S (notBelow (v .joint) L)
@@ -116,14 +116,14 @@ module _ {r : Road} (G : Guaranteed r) {v : View} {x : ℕ} (seen : Viewed r v x
       let room = length z - end in
       let q = part G seen on room h in
       let e = same G seen on room h in
-      let n : stop .station ≡ firstOr (v .joint) (q .left) = w .station ∙ ap (λ (p : Part). firstOr (v .joint) (p .left)) e in
+      let n : stop .station ≡ firstOr (v .joint) (q .remaining) = w .station ∙ ap (λ (p : Part). firstOr (v .joint) (p .remaining)) e in
       let t : Wrote y y′ end (q .text) (stop .end) = subst (λ (p : Part). Wrote y y′ end (p .text) (stop .end)) e (w .wrote) in
       let k : room - length (q .text) ≡ length z - stop .end = omega (arith, t .end) in
       let fits = fit-room (line r) room (stretchStations (r .step) x (v .joint)) (λ z m. line-fits (G .accepted-as) z (inside G seen on z m)) in
       let s = stopped G seen on room h in
       record {
         beyond = omega (arith, n, onward G seen on room h);
-        among = λ l. Memᴰ·cast n (station-listed (firstOr (v .joint) (q .left)) (omega arith) (s .high) (s .at));
+        among = λ l. Memᴰ·cast n (station-listed (firstOr (v .joint) (q .remaining)) (omega arith) (s .high) (s .at));
         going = going-on g t (rows-left G seen on room h ∙ ap₂ (λ (m i : ℕ). before (q .text) (rowsThatFit (line r) m (notBelow i (listed r)))) k (sym n)) (omega (arith, t .end, g .room));
       }
     where

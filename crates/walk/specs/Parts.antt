@@ -13,7 +13,7 @@ use Rattle.walk.specs.Rows.{notBelow, Part, before, nothing, rowsThatFit
 use Rattle.walk.specs.NotBelow.{kept, dropped, from-all}
 
 pub before-before : (t u : List ℕ) (p : Part) → before t (before u p) ≡ before (t ++ u) p
-before-before t u p = ap (λ (x : List ℕ). record { text = x; left = p .left }) (sym (append-assoc t u (p .text)))
+before-before t u p = ap (λ (x : List ℕ). record { text = x; remaining = p .remaining }) (sym (append-assoc t u (p .text)))
 
 module _ (line : ℕ → List ℕ) where
   pub fit-none : (room : ℕ) → rowsThatFit line room [] ≡ nothing []
@@ -31,28 +31,28 @@ module _ (line : ℕ → List ℕ) where
 
   -- two lists one behind another
   pub fit-append : (room : ℕ) (l m : List ℕ)
-      → (let p = rowsThatFit line room l in rowsThatFit line room (l ++ m) ≡ before (p .text) (rowsThatFit line (room - length (p .text)) (p .left ++ m)))
+      → (let p = rowsThatFit line room l in rowsThatFit line room (l ++ m) ≡ before (p .text) (rowsThatFit line (room - length (p .text)) (p .remaining ++ m)))
   fit-append room [] m = rw (fit-none room, sub-zero room)
   fit-append room (s ∷ ss) m = go (decLe 96 room) (fit-append (room - length (line s)) ss m)
     where
-      go : Dec (96 ≤ room) → (let p = rowsThatFit line (room - length (line s)) ss in rowsThatFit line (room - length (line s)) (ss ++ m) ≡ before (p .text) (rowsThatFit line (room - length (line s) - length (p .text)) (p .left ++ m)))
-          → (let p = rowsThatFit line room (s ∷ ss) in rowsThatFit line room (s ∷ (ss ++ m)) ≡ before (p .text) (rowsThatFit line (room - length (p .text)) (p .left ++ m)))
+      go : Dec (96 ≤ room) → (let p = rowsThatFit line (room - length (line s)) ss in rowsThatFit line (room - length (line s)) (ss ++ m) ≡ before (p .text) (rowsThatFit line (room - length (line s) - length (p .text)) (p .remaining ++ m)))
+          → (let p = rowsThatFit line room (s ∷ ss) in rowsThatFit line room (s ∷ (ss ++ m)) ≡ before (p .text) (rowsThatFit line (room - length (p .text)) (p .remaining ++ m)))
       go (yes h) ih =
           let p = rowsThatFit line (room - length (line s)) ss in
           let e : room - length (line s) - length (p .text) ≡ room - length (line s ++ p .text) = omega (arith, length-append (line s) (p .text)) in
-          rw (fit-row room s ss h, fit-row room s (ss ++ m) h, ← e) (ap (before (line s)) ih ∙ before-before (line s) (p .text) (rowsThatFit line (room - length (line s) - length (p .text)) (p .left ++ m)))
+          rw (fit-row room s ss h, fit-row room s (ss ++ m) h, ← e) (ap (before (line s)) ih ∙ before-before (line s) (p .text) (rowsThatFit line (room - length (line s) - length (p .text)) (p .remaining ++ m)))
       go (no h) ih = rw (fit-full room (s ∷ ss) (omega arith), sub-zero room)
 
   -- all rows of the list, one behind another
-  pub fit-whole : (room : ℕ) (l : List ℕ) → (let p = rowsThatFit line room l in joined line l ≡ p .text ++ joined line (p .left))
+  pub fit-whole : (room : ℕ) (l : List ℕ) → (let p = rowsThatFit line room l in joined line l ≡ p .text ++ joined line (p .remaining))
   unfolding joined
   fit-whole room [] = rw (fit-none room)
   fit-whole room (s ∷ ss) = go (decLe 96 room) (fit-whole (room - length (line s)) ss)
     where
-      go : Dec (96 ≤ room) → (let p = rowsThatFit line (room - length (line s)) ss in joined line ss ≡ p .text ++ joined line (p .left)) → (let p = rowsThatFit line room (s ∷ ss) in joined line (s ∷ ss) ≡ p .text ++ joined line (p .left))
+      go : Dec (96 ≤ room) → (let p = rowsThatFit line (room - length (line s)) ss in joined line ss ≡ p .text ++ joined line (p .remaining)) → (let p = rowsThatFit line room (s ∷ ss) in joined line (s ∷ ss) ≡ p .text ++ joined line (p .remaining))
       go (yes h) ih =
           let p = rowsThatFit line (room - length (line s)) ss in
-          rw (fit-row room s ss h) (ap (λ (t : List ℕ). line s ++ t) ih ∙ sym (append-assoc (line s) (p .text) (joined line (p .left))))
+          rw (fit-row room s ss h) (ap (λ (t : List ℕ). line s ++ t) ih ∙ sym (append-assoc (line s) (p .text) (joined line (p .remaining))))
       go (no h) ih = rw (fit-full room (s ∷ ss) (omega arith))
 
   -- lines of at most 96 bytes fit
@@ -82,20 +82,20 @@ abbrev pub firstOr : ℕ → List ℕ → ℕ
 firstOr e [] = e
 firstOr e (s ∷ _) = s
 
--- of stations from k to below e: where the rows stop, what is left is what is not below that
-pub record Stopped (k e : ℕ) (l left : List ℕ) : Type 0 where
-  pub low : k ≤ firstOr e left
-  pub high : firstOr e left ≤ e
-  pub at : firstOr e left < e → List·Memᴰ (firstOr e left) l
-  pub rest : left ≡ notBelow (firstOr e left) l
+-- of stations from k to below e: where the rows stop, what remains is what is not below that
+pub record Stopped (k e : ℕ) (l remaining : List ℕ) : Type 0 where
+  pub low : k ≤ firstOr e remaining
+  pub high : firstOr e remaining ≤ e
+  pub at : firstOr e remaining < e → List·Memᴰ (firstOr e remaining) l
+  pub rest : remaining ≡ notBelow (firstOr e remaining) l
 
 module _ (line : ℕ → List ℕ) (e : ℕ) where
-  pub fit-stops : (room : ℕ) {k : ℕ} {l : List ℕ} → Ascends k l → k ≤ e → ((z : ℕ) → List·Memᴰ z l → z < e) → Stopped k e l (rowsThatFit line room l .left)
+  pub fit-stops : (room : ℕ) {k : ℕ} {l : List ℕ} → Ascends k l → k ≤ e → ((z : ℕ) → List·Memᴰ z l → z < e) → Stopped k e l (rowsThatFit line room l .remaining)
   unfolding notBelow
   fit-stops room empty h upto = rw (fit-none line room) (record { low = h; high = omega arith; at = λ l. absurd (omega arith); rest = refl })
   fit-stops room {k} (step {x = x} {xs = xs} b a) h upto = go (decLe 96 room) (fit-stops (room - length (line x)) a (upto x (List·Memᴰ·head refl)) (λ z m. upto z (List·Memᴰ·tail m)))
     where
-      go : Dec (96 ≤ room) → Stopped (suc x) e xs (rowsThatFit line (room - length (line x)) xs .left) → Stopped k e (x ∷ xs) (rowsThatFit line room (x ∷ xs) .left)
+      go : Dec (96 ≤ room) → Stopped (suc x) e xs (rowsThatFit line (room - length (line x)) xs .remaining) → Stopped k e (x ∷ xs) (rowsThatFit line room (x ∷ xs) .remaining)
       go (yes r) i = let l = i .low in rw (fit-row line room x xs r) (record { low = omega arith; high = i .high; at = λ j. List·Memᴰ·tail (i .at j); rest = i .rest ∙ sym (dropped _ x xs l) })
       go (no r) i =
           let w : notBelow x xs ≡ xs = from-all x xs (λ z m. let l = ascends-low a m in omega arith) in

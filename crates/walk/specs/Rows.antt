@@ -17,17 +17,17 @@ unfoldable pub notBelow : ℕ → List ℕ → List ℕ
 notBelow s [] = []
 notBelow s (x ∷ xs) = if leb s x then x ∷ notBelow s xs else notBelow s xs
 
--- the bytes of some rows, and the stations that are left
+-- the bytes of some rows, and the stations that remain
 pub record Part : Type 0 where
   pub text : List ℕ
-  pub left : List ℕ
+  pub remaining : List ℕ
 
 abbrev pub before : List ℕ → Part → Part
-before t p = record { text = t ++ p .text; left = p .left }
+before t p = record { text = t ++ p .text; remaining = p .remaining }
 
 -- no row
 abbrev pub nothing : List ℕ → Part
-nothing stations = record { text = []; left = stations }
+nothing stations = record { text = []; remaining = stations }
 
 -- the rows of stations, one behind another, as long as at least 96 bytes are left
 unfoldable pub rowsThatFit : (ℕ → List ℕ) → (room : ℕ) → List ℕ → Part
@@ -39,11 +39,11 @@ rowsThatFit line room (s ∷ ss) =
 unfoldable pub chunk : Road → (station room : ℕ) → Part
 chunk r s room = rowsThatFit (line r) room (notBelow s (listed r))
 
--- the first of the stations left, or that the list is done
+-- the first of the stations that remain, or that the list is done
 abbrev pub onward : List ℕ → Onward
 onward [] = Done
 onward (s ∷ _) = From s
 
 -- how many bytes, and how to go on
 abbrev pub answer : Part → Chunk
-answer p = record { bytes = length (p .text); next = onward (p .left) }
+answer p = record { bytes = length (p .text); next = onward (p .remaining) }

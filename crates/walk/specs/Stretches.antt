@@ -19,7 +19,7 @@ pub record Stepped (step x joint : ℕ) : Type 0 where
   pub beyond : x < joint
   pub end : joint ≤ 100000001
 
--- the rows of a part were written from `at` on; they stop at the first station left, or at the joint
+-- the rows of a part were written from `at` on; they stop at the first station that remains, or at the joint
 pub record Answers (p : Part) (b a : List ℕ) (at joint : ℕ) (r : Stop) : Type 0 where
   pub wrote : Wrote b a at (p .text) (r .end)
-  pub station : r .station ≡ firstOr joint (p .left)
+  pub station : r .station ≡ firstOr joint (p .remaining)

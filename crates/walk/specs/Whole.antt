@@ -65,34 +65,34 @@ module _ {r : Road} (G : Guaranteed r) where
   abbrev bound : ℕ → ℕ
   bound s = suc (s + total r)
 
-  stops : (s room : ℕ) → Stopped s (bound s) (notBelow s (listed r)) (chunk r s room .left)
+  stops : (s room : ℕ) → Stopped s (bound s) (notBelow s (listed r)) (chunk r s room .remaining)
   unfolding chunk
   stops s room = fit-stops (line r) (bound s) room (from-ascends s (listed-ascends r)) (omega arith) (λ z m. let h = listed-inside G (from-member s (listed r) m .among) in omega arith)
 
-  module _ (s room t : ℕ) (e : onward (chunk r s room .left) ≡ From t) where
-    at-station : firstOr (bound s) (chunk r s room .left) ≡ t
-    at-station = first-left (bound s) t (chunk r s room .left) e
+  module _ (s room t : ℕ) (e : onward (chunk r s room .remaining) ≡ From t) where
+    at-station : firstOr (bound s) (chunk r s room .remaining) ≡ t
+    at-station = first-left (bound s) t (chunk r s room .remaining) e
 
     -- the stations left are those from it on
-    pub left-from : chunk r s room .left ≡ notBelow t (listed r)
+    pub left-from : chunk r s room .remaining ≡ notBelow t (listed r)
     left-from =
         let n = at-station in
         stops s room .rest ∙ ap (λ (x : ℕ). notBelow x (notBelow s (listed r))) n ∙ from-from s t (listed r) (omega (arith, stops s room .low))
 
     -- it is listed
     pub onward-listed : List·Memᴰ t (listed r)
-    onward-listed = from-member t (listed r) (subst (List·Memᴰ t) left-from (first-among t (chunk r s room .left) e)) .among
+    onward-listed = from-member t (listed r) (subst (List·Memᴰ t) left-from (first-among t (chunk r s room .remaining) e)) .among
 
     -- with room for a row it is beyond s
     pub onward-beyond : 96 ≤ room → s < t
     unfolding chunk
     onward-beyond h = go (notBelow s (listed r)) (from-ascends s (listed-ascends r)) (λ z m. let i = listed-inside G (from-member s (listed r) m .among) in omega arith) e
       where
-        go : (l : List ℕ) → Ascends s l → ((z : ℕ) → List·Memᴰ z l → z < bound s) → onward (rowsThatFit (line r) room l .left) ≡ From t → s < t
+        go : (l : List ℕ) → Ascends s l → ((z : ℕ) → List·Memᴰ z l → z < bound s) → onward (rowsThatFit (line r) room l .remaining) ≡ From t → s < t
         go [] a below q = absurd (List·Memᴰ·not-nil (first-among t [] (rw (fit-none (line r) room) at q)))
         go (x ∷ xs) (step b a) below q =
             let p = rowsThatFit (line r) (room - length (line r x)) xs in
-            let n : firstOr (bound s) (p .left) ≡ t = first-left (bound s) t (p .left) (rw (fit-row (line r) room x xs h) at q) in
+            let n : firstOr (bound s) (p .remaining) ≡ t = first-left (bound s) t (p .remaining) (rw (fit-row (line r) room x xs h) at q) in
             omega (arith, n, fit-stops (line r) (bound s) (room - length (line r x)) a (below x (List·Memᴰ·head refl)) (λ z m. below z (List·Memᴰ·tail m)) .low)
 
   -- ---- the chunks put together
@@ -101,14 +101,14 @@ module _ {r : Road} (G : Guaranteed r) where
   calls-lines {s} (last {c = c} b e d) =
       let room = length b in
       let l = notBelow s (listed r) in
-      let n : chunk r s room .left ≡ [] = done-left (chunk r s room .left) (ap (λ (c : Seen). c .answer .next) (sym e) ∙ d) in
+      let n : chunk r s room .remaining ≡ [] = done-left (chunk r s room .remaining) (ap (λ (c : Seen). c .answer .next) (sym e) ∙ d) in
       ap (λ (t : List ℕ). t ++ []) (ap bytesOf e ∙ bytes-are r s b)
       ∙ ap (λ (m : List ℕ). chunk r s room .text ++ joined (line r) m) (sym n)
       ∙ sym (fit-whole (line r) room l)
   calls-lines {s} (more {t = t} {c = c} {cs = cs} b e d k) =
       let room = length b in
       let l = notBelow s (listed r) in
-      let n : chunk r s room .left ≡ notBelow t (listed r) = left-from s room t (ap (λ (c : Seen). c .answer .next) (sym e) ∙ d) in
+      let n : chunk r s room .remaining ≡ notBelow t (listed r) = left-from s room t (ap (λ (c : Seen). c .answer .next) (sym e) ∙ d) in
       ap₂ (λ (t u : List ℕ). t ++ u) (ap bytesOf e ∙ bytes-are r s b) (calls-lines k)
       ∙ ap (λ (m : List ℕ). chunk r s room .text ++ joined (line r) m) (sym n)
       ∙ sym (fit-whole (line r) room l)

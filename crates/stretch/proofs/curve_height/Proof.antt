@@ -4,7 +4,7 @@ use lib.IntN.{ℤ, pos, natAbs, _+ℤ_, _*ℤ_}
 use mir.Syntax.{w64}
 use mir.Val.{SFits}
 use mir.Facts.{toZ-ofZ}
-use Rattle.integers.specs.Rounding.{floor, left}
+use Rattle.integers.specs.Rounding.{floor, remainder}
 use Rattle.stretch.proofs.Curve as cv
 use Rattle.stretch.proofs.curve_height.Statement.{statement}
 use Rattle.stretch.proofs.curve_height.Tie as tie
@@ -41,7 +41,7 @@ module _ (c : tie.After-rem-floor) where
   part-fits : SFits w64 (c .rem-floor .result)
   part-fits = record { sfits = c .rem-floor .ok }
 
-  part-is : c .rem-floor .result ≡ pos (left (s (c .before) .args .line +ℤ c .before .div-floor .result) 1000000)
+  part-is : c .rem-floor .result ≡ pos (remainder (s (c .before) .args .line +ℤ c .before .div-floor .result) 1000000)
   part-is = simp (toZ-ofZ, s (c .before) .fits .line, f-fits (c .before), top (c .before)) at (c .rem-floor .ensures)
 
   part-k : SFits w64 (c .rem-floor .result *ℤ (pos 4 *ℤ s (c .before) .args .half))
@@ -60,7 +60,7 @@ module _ (c : tie.After-rem-floor2) where
   rest-fits : SFits w64 (c .rem-floor2 .result)
   rest-fits = record { sfits = c .rem-floor2 .ok }
 
-  rest-is : c .rem-floor2 .result ≡ pos (left (s2 .args .change *ℤ (s2 .args .u *ℤ s2 .args .u)) (natAbs (pos 4 *ℤ s2 .args .half)))
+  rest-is : c .rem-floor2 .result ≡ pos (remainder (s2 .args .change *ℤ (s2 .args .u *ℤ s2 .args .u)) (natAbs (pos 4 *ℤ s2 .args .half)))
   rest-is = simp (toZ-ofZ, s2 .fits .u, s2 .fits .change, s2 .fits .half, cv.square-fits (s2 .pre), cv.bend-fits (s2 .pre), cv.k-fits (s2 .pre)) at (c .rem-floor2 .ensures)
 
   m : SFits w64 (c .before .rem-floor .result *ℤ (pos 4 *ℤ s2 .args .half) +ℤ c .rem-floor2 .result)
