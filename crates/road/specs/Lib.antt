@@ -17,5 +17,6 @@ pub mod Ranged
 pub mod Positive
 pub mod Compute
 pub mod Starred
+pub mod AtLimits
 pub mod Text
 pub mod Sample

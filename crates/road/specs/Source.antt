@@ -1,12 +1,31 @@
--- The table of limits against its source: annex 2 of the rule book (source document 001), chapter 10; arc lengths from source document 003.
+-- The speeds and the table of limits against their source: annex 2 of the rule book (source document 001), table 3-03 and chapter 10; arc lengths from source document 003.
 use Prim.Native.Nat.{ℕ, _*_}
 use mathlib.Core.Path.{_≡_, refl}
 use mathlib.Core.List.{List, [], _∷_, map}
 use mathlib.Core.Bool.{true, false}
 use lib.ListN.{getD}
-use lib.Dec.{eqb}
+use lib.Dec.{leb, eqb}
 use Rattle.road.specs.Base.{if_then_else_, countFrom}
-use Rattle.road.specs.Limits.{noRule, table}
+use Rattle.road.specs.Limits.{speed, noRule, table}
+
+-- table 3-03, "Вредности рачунске брзине (V_r)", in km/h and in the source's order:
+-- a row for даљински, везни, сабирни, приступни (classes 1 to 4), a column for равничарски, брдовит, планински (terrains 1 to 3)
+abbrev pub table3-03 : List (List ℕ)
+table3-03 =
+    (130 ∷ 100 ∷ 80 ∷ [])
+    ∷ (100 ∷ 80 ∷ 70 ∷ [])
+    ∷ (80 ∷ 60 ∷ 50 ∷ [])
+    ∷ (60 ∷ 50 ∷ 40 ∷ [])
+    ∷ []
+
+-- the table's only note, a mark at 130: "за двотрачне и вишетрачне путеве V_r ≤ 100 km/h", for two-lane and multi-lane roads
+abbrev pub twoLane : ℕ → ℕ
+twoLane v = if leb v 100 then v else 100
+
+-- the speed of each class and terrain is the source's, cut by its note
+pub speeds-from-source : map (λ class. map (speed class) (countFrom 1 3)) (countFrom 1 4) ≡ map (map twoLane) table3-03
+unfolding countFrom speed
+speeds-from-source = refl
 
 -- a row of chapter 10 at 40, 50, .. , 100 km/h, and how many mm (ppm, for the grade) one of its units is; 0 stands for "-"
 pub record SourceRow : Type 0 where
