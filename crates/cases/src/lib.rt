@@ -1,5 +1,8 @@
 // The cases of a test program's input: numbers, and parts that stand after their lengths.
+ghost use mathlib.Core.Path.{_≡_};
 ghost use Prim.Native.Nat.{_≤_};
+ghost use lib.ListN.{length};
+ghost use Rattle.cases.specs.Cases.{itemAt, partAt, within};
 use number::Number;
 
 // A number of the input and the place after it; 0 and the input's end where there is none.
@@ -8,7 +11,9 @@ pub struct Item {
     pub next: usize,
 }
 
-pub fn item_at(input: &[u8], at: usize) -> Item {
+pub fn item_at(input: &[u8], at: usize) -> Item
+    ensures { λ r. ⌜ r ≡ itemAt (now (input .entry)) at ⌝ }
+{
     match reader::number_at(input, at) {
         Number::Value(v, next) => Item {
             value: v as u64,
@@ -27,28 +32,27 @@ pub struct Part {
     pub end: usize,
 }
 
-// The part that stands at a place after its length, as far as the input goes.
-pub fn part_at(input: &[u8], at: usize) -> Part
-    ensures { λ r. do ⌜ (r .from ≤ r .end) × (r .end ≤ (← ⟦input.len()⟧ .entry)) ⌝ }
+// So many bytes from a place on, as far as an input of that length goes.
+fn within(end: usize, from: usize, count: u64) -> Part
+    ensures { λ r. ⌜ r ≡ within end from count ⌝ }
 {
-    let length = item_at(input, at);
-    let from = length.next;
-    let count = length.value;
-    if input.len() < from {
-        return Part {
-            from: input.len(),
-            end: input.len(),
-        };
+    if end < from {
+        return Part { from: end, end };
     }
-    let left = input.len() - from;
-    if (left as u64) < count {
-        return Part {
-            from,
-            end: input.len(),
-        };
+    if ((end - from) as u64) < count {
+        return Part { from, end };
     }
     Part {
         from,
         end: from + count as usize,
     }
+}
+
+// The part that stands at a place after its length, as far as the input goes.
+pub fn part_at(input: &[u8], at: usize) -> Part
+    ensures { λ r. ⌜ r ≡ partAt (now (input .entry)) at ⌝ }
+    ensures { λ r. ⌜ (r .from ≤ r .end) × (r .end ≤ length (now (input .entry))) ⌝ }
+{
+    let count = item_at(input, at);
+    within(input.len(), count.next, count.value)
 }
