@@ -11,7 +11,7 @@ enum Input {
 }
 
 // One read into the rest of the buffer: its count, 0 at the input's end.
-fn read_some(rest: &mut [u8]) -> Input
+fn read_once(rest: &mut [u8]) -> Input
     ensures { λ r. ⌜ Within r (length (now (rest .entry))) ⌝ }
 {
     let got = libc::read(STDIN_FILENO, rest);
@@ -19,6 +19,16 @@ fn read_some(rest: &mut [u8]) -> Input
         return Input::Failed;
     }
     Input::Bytes(io::count(got, rest))
+}
+
+// A read that failed may have been interrupted: it is tried once more.
+fn read_some(rest: &mut [u8]) -> Input
+    ensures { λ r. ⌜ Within r (length (now (rest .entry))) ⌝ }
+{
+    match read_once(rest) {
+        Input::Failed => read_once(rest),
+        Input::Bytes(count) => Input::Bytes(count),
+    }
 }
 
 // Reads until the buffer is full or the input ends. At most the buffer's length is looked at.
@@ -42,11 +52,10 @@ fn read_input(buffer: &mut [u8]) -> Input
     Input::Bytes(done)
 }
 
-// The list of a file, by parts of 128 KB.
+// The list of a file, or its refusal; a word on standard error where it was not written whole.
 fn list(file: &[u8]) {
-    let mut out = [0u8; 131072];
-    let is_written = printing::print_list(file, &mut out);
-    if !is_written {
+    let handed = printing::print_list(file);
+    if !printing::is_written(handed) {
         io::write_all(STDERR_FILENO, b"list: the list was not written whole\n");
     }
 }

@@ -17,7 +17,7 @@ pub enum ListAnswer {
 }
 
 // The rows of an accepted alignment: 20 for a buffer under 96 bytes.
-pub fn put_rows(a: Alignment, station: u64, out: &mut [u8]) -> ListAnswer
+fn put_rows(a: Alignment, station: u64, out: &mut [u8]) -> ListAnswer
     requires { ⌜ Ready a ⌝ }
     ensures { λ r. ⌜ ofList r ≡ listOn station (length (now (out .entry))) (got (roadIn a) 0) ⌝ }
     ensures { λ _. ⌜ now (out .exit) ≡ rowsOn station (now (out .entry)) (got (roadIn a) 0) ⌝ }

@@ -1,1 +1,2 @@
 pub mod RefusalLine
+pub mod Progress

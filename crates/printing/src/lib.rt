@@ -1,14 +1,26 @@
 // The list of a file on standard output.
+mod handed;
+
 ghost use mathlib.Core.Path.{_≡_};
+ghost use mathlib.Core.Bool.{true};
 ghost use mathlib.Core.List.{[], _∷_, _++_};
 ghost use Prim.Native.Nat.{_+_, _≤_};
 ghost use lib.ListN.{length};
 ghost use Rattle.decimal.specs.Decimal.{digits};
 ghost use Rattle.decimal.specs.Pairs.{pairTable};
 ghost use Rattle.decimal.specs.Written.{Wrote};
+ghost use Rattle.number.specs.Reading.{refused};
+ghost use Rattle.road.specs.Held.{roadIn};
+ghost use Rattle.road.specs.Limits.{limits};
 ghost use Rattle.road.specs.Listing.{refusalLine};
+ghost use Rattle.road.specs.Rules.{accepted};
+ghost use Rattle.walk.specs.declared.Onward.the-variants.{Done};
+ghost use Rattle.printing.specs.Progress.{AcceptedAs, Later};
 use acceptance::Outcome;
-use listing::ListAnswer;
+pub use handed::Handed;
+pub use handed::is_written;
+use road::Alignment;
+use walk::Onward;
 
 // Writes a number and the byte `after` behind it, from `at` on, and returns the place after that.
 fn put_number(pairs: &[u8; 200], line: &mut [u8], at: usize, n: u64, after: u8) -> usize
@@ -41,37 +53,57 @@ pub fn put_refusal(line: &mut [u8], number: u32, place: usize) -> usize
     put_number(&pairs, line, middle, place as u64, 10)
 }
 
-// Writes a refusal's line, and answers whether all of it was written.
-fn print_refusal(number: u32, place: usize) -> bool {
+// Hands over the line of a file that is turned away.
+fn print_refusal(file: &[u8], number: u32, place: usize) -> Handed
+    requires { ⌜ accepted (now file) ≡ refused number place ⌝ }
+    ensures { λ r. ⌜ r .next ≡ Done ⌝ }
+{
     let mut line = [0u8; 64];
     let end = put_refusal(&mut line, number, place);
-    io::write_all(1, &line[..end])
+    handed::hand_over(handed::no_part(), file, &line[..end], Onward::Done)
 }
 
-// Writes the list of a file to standard output, or its refusal, by parts that the buffer has room for. Answers whether all of it was written.
-pub fn print_list(file: &[u8], out: &mut [u8]) -> bool {
+// The part that follows: its rows put into the buffer, as many as it has room for, and handed over.
+fn print_part(file: &[u8], a: Alignment, lane: u32, before: Handed, out: &mut [u8]) -> Handed
+    requires { ⌜ AcceptedAs (now file) a ⌝ ∗ ⌜ lane ≡ limits (roadIn a) .lane ⌝ ∗ ⌜ 96 ≤ length (now out) ⌝ }
+    ensures { λ r. ⌜ Later (before .next) (r .next) ⌝ }
+{
+    let next = handed::next_of(before);
+    match next {
+        Onward::Done => before,
+        Onward::From(station) => {
+            let chunk = walk::rows_from(a, lane, station, out);
+            let bytes = chunk.bytes;
+            let following = chunk.next;
+            handed::hand_over(before, file, &out[..bytes], following)
+        }
+    }
+}
+
+// The rows of an accepted file, part by part, up to the last one or to one that was not written.
+fn print_rows(file: &[u8], a: Alignment, out: &mut [u8]) -> Handed
+    requires { ⌜ AcceptedAs (now file) a ⌝ ∗ ⌜ 96 ≤ length (now out) ⌝ }
+    ensures { λ r. ⌜ (r .«is_written» ≡ true → r .next ≡ Done) ⌝ }
+{
+    let limits = limits::limits_of(a.class, a.terrain);
+    let lane = limits.lane;
+    let mut handed = handed::no_part();
+    while handed::goes_on(handed) {
+        handed = print_part(file, a, lane, handed, out);
+    }
+    handed
+}
+
+// Hands the list of a file to standard output, or its refusal: to the end, or to a part that was not written.
+pub fn print_list(file: &[u8]) -> Handed
+    ensures { λ r. ⌜ (r .«is_written» ≡ true → r .next ≡ Done) ⌝ }
+{
     let accepted = acceptance::accept(file);
     let alignment = accepted.alignment;
     let outcome = accepted.outcome;
     if let Outcome::Refused(number, place) = outcome {
-        return print_refusal(number, place);
+        return print_refusal(file, number, place);
     }
-    let mut from: u64 = 0;
-    loop {
-        match listing::put_rows(alignment, from, out) {
-            ListAnswer::Refused(number, place) => {
-                return print_refusal(number, place);
-            }
-            ListAnswer::Done(bytes) => {
-                return io::write_all(1, &out[..bytes]);
-            }
-            ListAnswer::More(bytes, next) => {
-                let is_written = io::write_all(1, &out[..bytes]);
-                if !is_written {
-                    return false;
-                }
-                from = next;
-            }
-        }
-    }
+    let mut out = [0u8; 131072];
+    print_rows(file, alignment, &mut out)
 }
