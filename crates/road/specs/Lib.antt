@@ -20,3 +20,4 @@ pub mod Starred
 pub mod AtLimits
 pub mod Text
 pub mod Sample
+pub mod Attained

@@ -5,7 +5,10 @@ use mathlib.Core.List.{List, [], _∷_, _++_}
 use lib.IntN.{pos, negsuc}
 use lib.ListN.{replicate}
 use Rattle.number.specs.Number.{shortest, written}
+use Rattle.number.specs.Reading.{got}
 use Rattle.road.specs.Base.{joined}
+use Rattle.road.specs.File.{Road}
+use Rattle.road.specs.Rules.{accepted}
 use Rattle.road.specs.Text.{printedLine}
 use Rattle.road.specs.Listing.{listing}
 use Rattle.road.specs.Compute.{computed}
@@ -25,6 +28,23 @@ numbers =
 
 abbrev pub file : List ℕ
 file = joined shortest numbers
+
+abbrev pub road : Road
+road = record {
+  class = 4;
+  terrain = 3;
+  step = 50_000;
+  ramp = 5000;
+  plan = record { kind = 0; length = 200_000; radius = pos 0 } ∷ [];
+  start = pos 500_000;
+  tangents = record { length = 100_000; grade = pos 20_000; half = 20_000 } ∷ record { length = 100_000; grade = negsuc 19_999; half = 0 } ∷ [];
+  crossfalls = record { station = 0; left = negsuc 24_999; right = negsuc 24_999 } ∷ record { station = 200_000; left = negsuc 24_999; right = negsuc 24_999 } ∷ [];
+}
+
+-- the file is not turned away, and that is its road
+pub sample-accepted : accepted file ≡ got road 48
+unfolding computed
+sample-accepted = refl
 
 abbrev pub lines : List ℕ
 lines =
