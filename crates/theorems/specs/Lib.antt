@@ -28,6 +28,7 @@ pub mod Next
 pub mod Stations
 -- the blade
 pub mod OnePiece
+pub mod OneCurve
 pub mod Surface
 pub mod Quadratic
 pub mod Chord
@@ -43,3 +44,4 @@ pub mod Fits
 pub mod Buffer
 pub mod Visits
 pub mod ListingRun
+pub mod Neighbours

@@ -73,6 +73,10 @@ module _ {r : Road} (F : Facts r) where
   unfolding Rising
   rising i h = omega (arith, F .room i h, tangent-step r i)
 
+  -- a later curve begins at or past the end of an earlier one
+  pub curves-apart : (i j : ℕ) → i < j → j < vertexCount r → vertex r i + halfLength r i + halfLength r j ≤ vertex r j
+  curves-apart i j l h = omega (arith, rises-to (begins r) (length (r .tangents)) (suc i) j rising l (omega arith), F .room j (omega arith), tangent-step r j)
+
   -- the straight part begins where the curve before it ends
   pub at-begin : (i s : ℕ) → suc i < length (r .tangents) → s ≡ vertex r i + halfLength r i → OnStraight r (suc i) s
   at-begin i s h e =
@@ -170,10 +174,7 @@ module _ {r : Road} (F : Facts r) where
     -- two curves at one station
     curves : (i j s : ℕ) → i < j → OnCurve r i s → OnCurve r j s → C i s ≈ᶠ C j s
     curves i j s l a b =
-        let p = b .place in
-        let v = rises-to (begins r) (length (r .tangents)) (suc i) j rising l (omega arith) in
-        let w = F .room j (omega arith) in
-        let x = tangent-step r j in
+        let v = curves-apart i j l (b .place) in
         let y = b .low in
         let z = a .high in
         let e : s ≡ vertex r i + halfLength r i = omega arith in

@@ -21,7 +21,7 @@ use Rattle.road.specs.Ranged.{went, refused-not-got, Within}
 use Rattle.road.specs.Tests.{and-T, true-false}
 
 -- ---- the search for the first item
-first-at-some : (test : ℕ → Bool) (n i : ℕ) → FirstAt test n i → firstThat test n ≡ some i
+pub first-at-some : (test : ℕ → Bool) (n i : ℕ) → FirstAt test n i → firstThat test n ≡ some i
 first-at-some test n i f = go (firstThat test n) refl
   where
     go : (o : Option ℕ) → firstThat test n ≡ o → o ≡ some i
