@@ -1,7 +1,7 @@
 -- Document 01, "The blade over a whole run": which rows are neighbouring, and demand 3 between each two successive rows of the listing's run.
 use mathlib.Core.Path.{_≡_, refl, sym, ap, _∙_, subst, subst₂}
 use mathlib.Core.Logic.{_⊎_, inl, inr, _↔_}
-use mathlib.Core.List.{List, [], _∷_, map, List·Memᴰ, List·Memᴰ·cases-cons}
+use mathlib.Core.List.{List, [], _∷_, map, List·Memᴰ, List·Memᴰ·head, List·Memᴰ·tail, List·Memᴰ·cases-cons}
 use Prim.Native.Nat.{ℕ, zero, suc, _≤_, _<_}
 use native.Mathlib.Omega.{arith}
 use native.Mathlib.Decide.{decLe}
@@ -12,7 +12,9 @@ use Rattle.road.specs.File.{Road}
 use Rattle.road.specs.Exact.{Side, total, edge}
 use Rattle.road.specs.Listed.{stations, listed}
 use Rattle.road.specs.Rules.{accepted}
-use Rattle.road.specs.Blade.{Row, printedHeight, Neighbouring, blade, bound, BladeClose}
+use Rattle.road.specs.Line.{line}
+use Rattle.road.specs.Machine.{row, overwrite, trace}
+use Rattle.road.specs.Blade.{Row, rowsOf, printedHeight, Neighbouring, blade, bound, BladeClose}
 use Rattle.road.specs.Listing.{listingCalls, listingRows}
 use Rattle.road.specs.Positive.{Accepted, accepted-road}
 use Rattle.theorems.specs.Members.{At, item-has, item-from}
@@ -21,6 +23,7 @@ use Rattle.theorems.specs.Next.{listed-has}
 use Rattle.theorems.specs.Ranges.{total-positive}
 use Rattle.theorems.specs.Stations.{Named, zero-station, end-station, stations-has, listed-strictly}
 use Rattle.theorems.specs.Demand.{demand-3}
+use Rattle.theorems.specs.Visits.{rowAt, overwrite-room, row-first}
 use Rattle.theorems.specs.ListingRun.{listing-run}
 
 -- "neighbouring where their stations a < b have no listed station strictly between them": that, and nothing else
@@ -102,3 +105,19 @@ module _ (f b : List ℕ) (r : Road) (end : ℕ) (e : accepted f ≡ got r end) 
         → size (blade (printedHeight d a) (printedHeight d c) (a .station) (c .station) x -ᶠ edge d r x) ≤ᶠ bound r (a .station) (c .station)
     unfolding BladeClose listingRows
     listing-blade = demand-3 f b (listingCalls f) r end e a c (item-has blankRow (listingRows f b) i (omega arith)) (item-has blankRow (listingRows f b) (suc i) h) rows-neighbouring
+
+  -- ---- two rows "at listed stations or not": any two stations with no listed one between them have neighbouring rows in a run
+
+  module _ (a c : ℕ) (inside : c ≤ total r) (before : a < c) (free : (x : ℕ) → List·Memᴰ x (listed r) → a < x → x < c → ⊥) where
+    asked : rowsOf (row a ∷ row c ∷ []) (trace f b (row a ∷ row c ∷ [])) ≡ rowAt r a ∷ rowAt r c ∷ []
+    unfolding rowsOf
+    asked =
+        row-first f r end e a b (row c ∷ []) (omega arith) room
+        ∙ ap (λ (l : List Row). rowAt r a ∷ l) (row-first f r end e c (overwrite (line r a) b) [] inside (omega (arith, overwrite-room (line r a) b)))
+
+    pub stations-blade : (d : Side) (x : ℕ) → a ≤ x → x ≤ c → size (blade (printedHeight d (rowAt r a)) (printedHeight d (rowAt r c)) a c x -ᶠ edge d r x) ≤ᶠ bound r a c
+    unfolding BladeClose
+    stations-blade =
+        demand-3 f b (row a ∷ row c ∷ []) r end e (rowAt r a) (rowAt r c)
+        (subst (List·Memᴰ (rowAt r a)) (sym asked) (List·Memᴰ·head refl)) (subst (List·Memᴰ (rowAt r c)) (sym asked) (List·Memᴰ·tail (List·Memᴰ·head refl)))
+        (neighbouring-iff r a c .1 (before, free))

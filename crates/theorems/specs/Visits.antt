@@ -32,7 +32,7 @@ all-raise h all.none = all.none
 all-raise {l = y ∷ l} h (all.more p a) = all.more {a = y} (omega arith) (all-raise h a)
 
 -- a line over a buffer leaves it no shorter
-overwrite-room : (l b : List ℕ) → length b ≤ length (overwrite l b)
+pub overwrite-room : (l b : List ℕ) → length b ≤ length (overwrite l b)
 unfolding overwrite
 overwrite-room l b = omega (arith, length-append l (L.drop (length l) b), length-drop (length l) b)
 
@@ -63,14 +63,20 @@ module _ (f : List ℕ) (r : Road) (end : ℕ) (e : accepted f ≡ got r end) wh
   calls-end zero s h = refl
   calls-end (suc n) s h = rw (h, callsFrom)
 
+  -- a row call that is not refused, before any other calls
+  pub row-first : (z : ℕ) (b : List ℕ) (calls : List Call) → z ≤ total r → 96 ≤ length b
+      → rowsOf (row z ∷ calls) (trace f b (row z ∷ calls)) ≡ rowAt r z ∷ rowsOf calls (trace f (overwrite (line r z) b) calls)
+  unfolding rowsOf trace step
+  row-first z b calls l h =
+      ap₂ (λ (x : Answer) (c : List ℕ). rowIn (row z) x c (rowsOf calls (trace f c calls))) (row-answer z b l h) (row-buffer z b l h)
+      ∙ ap (λ (t : List ℕ). record { station = z; bytes = t } ∷ rowsOf calls (trace f (overwrite (line r z) b) calls)) (overwrite-take (line r z) b)
+
   rows : List ℕ → List Call → List Row
   rows b calls = rowsOf calls (trace f b calls)
 
   rows-more : (s z : ℕ) (b : List ℕ) (calls : List Call) → z ≤ total r → 96 ≤ length b → rows b (next s ∷ row z ∷ calls) ≡ rowAt r z ∷ rows (overwrite (line r z) b) calls
   unfolding rows rowsOf trace step
-  rows-more s z b calls l h =
-      ap₂ (λ (x : Answer) (c : List ℕ). rowIn (row z) x c (rowsOf calls (trace f c calls))) (row-answer z b l h) (row-buffer z b l h)
-      ∙ ap (λ (t : List ℕ). record { station = z; bytes = t } ∷ rowsOf calls (trace f (overwrite (line r z) b) calls)) (overwrite-take (line r z) b)
+  rows-more s z b calls l h = row-first z b calls l h
 
   none-left : (s : ℕ) → leastFrom s [] ≡ none
   unfolding leastFrom
