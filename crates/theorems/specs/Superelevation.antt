@@ -18,14 +18,16 @@ use Rattle.integers.specs.Fraction.{whole, _≈ᶠ_}
 use Rattle.integers.specs.Values.{cancel, same-value, other-way, _then_}
 use Rattle.road.specs.Base.{firstThat}
 use Rattle.road.specs.File.{Road}
-use Rattle.road.specs.Limits.{Limits, noRule, ruled}
+use Rattle.road.specs.Limits.{Limits, limits, noRule, ruled}
 use Rattle.road.specs.Exact.{elementOf, isArc, elementStart, total, pointOf, pointAt, Side, left, right, crossfallOf, crossfallBy, crossfall, from_to_}
-use Rattle.road.specs.Rules.{eqZ, changes, meets, changesOn, inner, superelevated, crowned, wrongSuperelevation}
-use Rattle.road.specs.Laws.{first-none, first-clear}
+use Rattle.road.specs.Rules.{eqZ, changes, meets, changesOn, inner, superelevated, crowned, wrongSuperelevation, rules}
+use Rattle.road.specs.Laws.{first-none, first-clear, Kept}
 use Rattle.road.specs.Lists.{element-step}
 use Rattle.road.specs.declared.Crossfall.{Crossfall}
 use Rattle.road.specs.Tests.{true-false, and-left, and-right, and-both, or-left, or-right, or-true, or-yes}
-use Rattle.theorems.specs.Facts.{Placed, placed-rise, placed-end, elements-rise}
+use Rattle.road.specs.Positive.{Accepted}
+use Rattle.theorems.specs.Facts.{Placed, facts, placed, placed-rise, placed-end, elements-rise}
+use Rattle.theorems.specs.Ranges.{element-in}
 use Rattle.theorems.specs.Last.{rises-to, Begun, begun, begun-before}
 use Rattle.theorems.specs.Crossfalls.{by-positive, crossfall-by}
 
@@ -286,3 +288,9 @@ superelevation-iff {r} P l i h long = (λ e q. there (isArc (elementOf r i)) q e
     back : (c : Bool) → isArc (elementOf r i) ≡ c → (isArc (elementOf r i) ≡ true → Constant r i × (Superelevated R p ⊎ Crowned l R p)) → (c && (changesOn r i || not (superelevated R p || crowned l R p))) ≡ false
     back false q k = refl
     back true q k = let g = k q in rw (steady .1 (g .0), formed (g .1))
+
+-- so on each arc of an accepted road the crossfall is constant, and of one of the two forms
+pub accepted-arc : {r : Road} → Accepted r → (i : ℕ) → i < length (r .plan) → isArc (elementOf r i) ≡ true
+    → Constant r i × (Superelevated (elementOf r i .radius) (startPoint r i) ⊎ Crowned (limits r) (elementOf r i .radius) (startPoint r i))
+unfolding Kept rules
+accepted-arc {r} A i h e = superelevation-iff (placed (facts A)) (limits r) i h (element-in A i h .length .low) .0 (A .kept .1 .1 .1 .1 .1 .1 .1 .1 .1 .1 .1 .1 .1 .1 .0 i h) e
