@@ -1,6 +1,7 @@
--- Each row that is read from a record is a row of the run that the record shows, and so demand 3 holds of any two of them.
+-- Each row that is read from a record is a row of the run that the record shows, and so demand 3 holds of any two of them; and each row of the run is read from it.
 use mathlib.Core.Path.{_≡_, refl, sym, ap, _∙_, subst}
-use mathlib.Core.List.{List, [], _∷_, map, List·Memᴰ, List·Memᴰ·head, List·Memᴰ·tail}
+use mathlib.Core.List.{List, [], _∷_, map, List·Memᴰ, List·Memᴰ·head, List·Memᴰ·tail, List·Memᴰ·cases-cons, List·Memᴰ·not-nil}
+use mathlib.Core.Logic.{_⊎_, inl, inr}
 use Prim.Native.Nat.{ℕ, zero, suc, _+_, _*_, _<_, _≤_}
 use native.Mathlib.Omega.{arith}
 use native.Mathlib.Nat.{suc-mul, zero-mul, add-comm, le-of-suc-le-suc}
@@ -62,6 +63,52 @@ module _ {f b ks ss b′ cs ns ps fs : List ℕ} (r : Recorded f b ks ss b′ cs
   unfolding BladeRecorded Close BladeClose
   blade-recorded road end e i j wi wj =
       demand-3 f b (callsOf ks ss) road end e (recordedRow (length b) ss ns fs i) (recordedRow (length b) ss ns fs j) (row-of-run i wi) (row-of-run j wj)
+
+-- ---- the other way: each row of what was seen is the row of one of the calls
+
+-- row a is that of a row call that was not refused
+pub record RowCall (size : ℕ) (ks ss cs ns fs : List ℕ) (a : Row) : Type 0 where
+  pub call : ℕ
+  pub is-row : IsRow ks cs call
+  pub row-is : recordedRow size ss ns fs call ≡ a
+
+module _ (size : ℕ) {a : Row} where
+  call-later : {ks ss cs ns fs : List ℕ} (k s c n : ℕ) → RowCall size ks ss cs ns (drop size fs) a → RowCall size (k ∷ ks) (s ∷ ss) (c ∷ cs) (n ∷ ns) fs a
+  call-later {ss = ss} {ns = ns} {fs = fs} k s c n w =
+      let i = w .call in
+      let q = w .is-row in
+      record {
+        call = suc i;
+        is-row = record { in-run = omega (arith, q .in-run); asked = q .asked; given = q .given };
+        row-is = ap (λ (l : List ℕ). record { station = getD ss i 0; bytes = l }) (frame-later size ns n fs i) ∙ w .row-is;
+      }
+
+  call-here : (ks ss cs ns fs : List ℕ) (s n : ℕ) → a ≡ record { station = s; bytes = take n (take size fs) } → RowCall size (0 ∷ ks) (s ∷ ss) (1 ∷ cs) (n ∷ ns) fs a
+  call-here ks ss cs ns fs s n e = record {
+    call = 0;
+    is-row = record { in-run = omega arith; asked = refl; given = refl };
+    row-is = ap (λ (m : ℕ). record { station = s; bytes = take n (take size (drop m fs)) }) (zero-mul size) ∙ sym e;
+  }
+
+  pub row-call : (ks ss cs ns ps fs : List ℕ) → List·Memᴰ a (rowsOf (callsOf ks ss) (seenIn size cs ns ps fs)) → RowCall size ks ss cs ns fs a
+  unfolding rowsOf
+  row-call [] ss cs ns ps fs m = absurd (List·Memᴰ·not-nil m)
+  row-call (k ∷ ks) [] cs ns ps fs m = absurd (List·Memᴰ·not-nil m)
+  row-call (k ∷ ks) (s ∷ ss) [] ns ps fs m = absurd (List·Memᴰ·not-nil m)
+  row-call (k ∷ ks) (s ∷ ss) (c ∷ cs) [] ps fs m = absurd (List·Memᴰ·not-nil m)
+  row-call (k ∷ ks) (s ∷ ss) (c ∷ cs) (n ∷ ns) [] fs m = absurd (List·Memᴰ·not-nil m)
+  row-call (zero ∷ ks) (s ∷ ss) (zero ∷ cs) (n ∷ ns) (p ∷ ps) fs m = call-later 0 s 0 n (row-call ks ss cs ns ps (drop size fs) m)
+  row-call (zero ∷ ks) (s ∷ ss) (suc zero ∷ cs) (n ∷ ns) (p ∷ ps) fs m = go (List·Memᴰ·cases-cons m) (λ l. row-call ks ss cs ns ps (drop size fs) l)
+    where
+      rest : List Row
+      rest = rowsOf (callsOf ks ss) (seenIn size cs ns ps (drop size fs))
+
+      go : (a ≡ record { station = s; bytes = take n (take size fs) }) ⊎ List·Memᴰ a rest → (List·Memᴰ a rest → RowCall size ks ss cs ns (drop size fs) a) → RowCall size (0 ∷ ks) (s ∷ ss) (1 ∷ cs) (n ∷ ns) fs a
+      go (inl e) ih = call-here ks ss cs ns fs s n e
+      go (inr l) ih = call-later 0 s 1 n (ih l)
+  row-call (zero ∷ ks) (s ∷ ss) (suc (suc zero) ∷ cs) (n ∷ ns) (p ∷ ps) fs m = call-later 0 s 2 n (row-call ks ss cs ns ps (drop size fs) m)
+  row-call (zero ∷ ks) (s ∷ ss) (suc (suc (suc c)) ∷ cs) (n ∷ ns) (p ∷ ps) fs m = call-later 0 s (suc (suc (suc c))) n (row-call ks ss cs ns ps (drop size fs) m)
+  row-call (suc k ∷ ks) (s ∷ ss) (c ∷ cs) (n ∷ ns) (p ∷ ps) fs m = call-later (suc k) s c n (row-call ks ss cs ns ps (drop size fs) m)
 
 -- demand 3 of what was seen, where that is the machine's run
 pub blade-seen : (f b : List ℕ) (calls : List Call) {ts : List After} → ts ≡ trace f b calls → BladeSeen f calls ts
