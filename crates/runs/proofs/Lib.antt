@@ -7,3 +7,5 @@ pub mod Rows
 pub mod Refused
 pub mod Listing
 pub mod AnyRun
+pub mod Witnesses
+pub mod Sample

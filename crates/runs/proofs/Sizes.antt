@@ -49,3 +49,7 @@ lent {k} {s} {c} {n} {p} {l} {f} e =
       seconds-size = eqb-true p k (b .1);
       frames-size = eqb-true f (k * l) (a .1);
     }
+
+pub lent-sized : {k s c n p l f : ℕ} → Lent k s c n p l f → sized k s c n p l f ≡ true
+lent-sized {k} {s} {c} {n} {p} {l} {f} w =
+    rw (eq-eqb s k (w .stations-size), eq-eqb c k (w .codes-size), eq-eqb n k (w .firsts-size), eq-eqb p k (w .seconds-size), eq-eqb f (k * l) (w .frames-size))
