@@ -1,7 +1,7 @@
 -- A whole list in chunks: put together, they are the rows of the listing's run.
 use mathlib.Core.Path.{_≡_, refl, sym, ap, ap₂, _∙_, subst}
 use mathlib.Core.List.{List, [], _∷_, _++_, List·Memᴰ, List·Memᴰ·head, List·Memᴰ·tail, List·Memᴰ·not-nil}
-use Prim.Native.Nat.{ℕ, suc, _+_, _-_, _≤_, _<_}
+use Prim.Native.Nat.{ℕ, zero, suc, _+_, _-_, _≤_, _<_}
 use native.Mathlib.Omega.{arith}
 use lib.ListN.{length, take, drop}
 use lib.Seq.{take-append-seam}
@@ -38,6 +38,11 @@ after r s b = record { answer = answer (chunk r s (length b)); buffer = overwrit
 pub data Calls (r : Road) : ℕ → List Seen → Type 0 where
   last : {s : ℕ} {c : Seen} (b : List ℕ) → c ≡ after r s b → c .answer .next ≡ Done → Calls r s (c ∷ [])
   more : {s t : ℕ} {c : Seen} {cs : List Seen} (b : List ℕ) → c ≡ after r s b → c .answer .next ≡ From t → Calls r t cs → Calls r s (c ∷ cs)
+
+-- there are such calls: what is seen after each
+pub record Called (r : Road) (s : ℕ) : Type 0 where
+  pub seen : List Seen
+  pub calls : Calls r s seen
 
 -- the bytes that a call wrote
 abbrev pub bytesOf : Seen → List ℕ
@@ -94,6 +99,25 @@ module _ {r : Road} (G : Guaranteed r) where
             let p = rowsThatFit (line r) (room - length (line r x)) xs in
             let n : firstOr (bound s) (p .remaining) ≡ t = first-left (bound s) t (p .remaining) (rw (fit-row (line r) room x xs h) at q) in
             omega (arith, n, fit-stops (line r) (bound s) (room - length (line r x)) a (below x (List·Memᴰ·head refl)) (λ z m. below z (List·Memᴰ·tail m)) .low)
+
+  -- ---- with 96 bytes or more for each call there are such calls: each goes on beyond its own station, up to T
+  module _ (b : List ℕ) (room : 96 ≤ length b) where
+    one-call : (s : ℕ) → ((t : ℕ) → s < t → t ≤ total r → Called r t) → Called r s
+    one-call s onwards = go (chunk r s (length b) .remaining) refl
+      where
+        go : (l : List ℕ) → chunk r s (length b) .remaining ≡ l → Called r s
+        go [] e = record { seen = after r s b ∷ []; calls = last b refl (ap onward e) }
+        go (t ∷ l) e =
+            let q : onward (chunk r s (length b) .remaining) ≡ From t = ap onward e in
+            let w = onwards t (onward-beyond s (length b) t q room) (listed-inside G (onward-listed s (length b) t q)) in
+            record { seen = after r s b ∷ w .seen; calls = more b refl q (w .calls) }
+
+    calls-within : (n s : ℕ) → total r < s + n → Called r s
+    calls-within zero s h = one-call s (λ t k l. absurd (omega arith))
+    calls-within (suc n) s h = one-call s (λ t k l. calls-within n t (omega arith))
+
+    pub calls-made : (s : ℕ) → Called r s
+    calls-made s = calls-within (suc (total r)) s (omega arith)
 
   -- ---- the chunks put together
   pub calls-lines : {s : ℕ} {cs : List Seen} → Calls r s cs → joined bytesOf cs ≡ joined (line r) (notBelow s (listed r))
