@@ -4,7 +4,7 @@ use mathlib.Core.List.{List, [], _∷_, map, List·Memᴰ, List·Memᴰ·head, L
 use mathlib.Core.Logic.{_⊎_, inl, inr}
 use Prim.Native.Nat.{ℕ, zero, suc, _+_, _*_, _<_, _≤_}
 use native.Mathlib.Omega.{arith}
-use native.Mathlib.Nat.{suc-mul, zero-mul, add-comm, le-of-suc-le-suc}
+use native.Mathlib.Nat.{suc-mul, zero-mul, add-comm}
 use lib.ListN.{length, take, drop, getD, length-map}
 use lib.Seq.{drop-drop}
 use Rattle.road.specs.Machine.{Call, row, next, Answer, refusal, wrote, station, noStation, After, trace}
@@ -46,7 +46,7 @@ module _ (size : ℕ) where
       rw (zero-mul size) (row-here size (rowsOf (callsOf ks ss) (seenIn size cs ns ps (drop size fs))) k s c n p fs (w .asked) (w .given))
   recorded-row (k ∷ ks) (s ∷ ss) (c ∷ cs) (n ∷ ns) (p ∷ ps) fs (suc i) hs hc hn hp w =
       row-later (callOf k s) (answerOf c n p) (take size fs)
-      (rw (frame-later size ns n fs i) (recorded-row ks ss cs ns ps (drop size fs) i (omega arith) (omega arith) (omega arith) (omega arith) (record { in-run = le-of-suc-le-suc (w .in-run); asked = w .asked; given = w .given })))
+      (rw (frame-later size ns n fs i) (recorded-row ks ss cs ns ps (drop size fs) i (omega arith) (omega arith) (omega arith) (omega arith) (record { in-run = omega (arith, w .in-run); asked = w .asked; given = w .given })))
 
 module _ {f b ks ss b′ cs ns ps fs : List ℕ} (r : Recorded f b ks ss b′ cs ns ps fs) (even : length ss ≡ length ks) where
   column : (g : After → ℕ) (xs : List ℕ) → xs ≡ map g (runOf f b ks ss) → length xs ≡ length ks
