@@ -1,18 +1,27 @@
 -- Any list of calls, each of which met its routine's own contract, in the contract's generated reading, is the machine's run; so demand 3 holds of it, and the rest.
-use mathlib.Core.Path.{_≡_, refl, sym, ap, _∙_}
+use mathlib.Core.Path.{_≡_, refl, sym, ap, _∙_, subst}
+use mathlib.Core.Bool.{Bool, true, false}
+use mathlib.Core.Option.{Option}
 use mathlib.Core.List.{List, [], _∷_}
 use Prim.Native.Nat.{ℕ, _≤_}
 use lib.ListN.{length, replicate}
-use denote.Ref.{now}
+use lib.Dec.{ltb}
+use denote.Ref.{RefT, now}
 use borrow.Fn.Kinds.{Dens, endedOf}
 use denote.Triple.Clauses.{AtExit}
 use contract.Lifetimes.{Lfts}
-use Rattle.number.specs.Reading.{got, refused}
+use Rattle.number.specs.Reading.{Got, got, refused}
+use Rattle.road.specs.Base.{if_then_else_}
 use Rattle.road.specs.File.{Road}
+use Rattle.road.specs.Exact.{total}
+use Rattle.road.specs.Line.{line}
+use Rattle.road.specs.Listed.{nextListed}
 use Rattle.road.specs.Rules.{accepted}
 use Rattle.road.specs.declared.RowAnswer.{RowAnswer}
 use Rattle.road.specs.declared.NextAnswer.{NextAnswer}
-use Rattle.road.specs.Machine.{refusal, ofRow, ofNext, rowAnswer, rowBuffer, nextAnswer, Call, row, next, After, step, trace}
+use Rattle.road.specs.declared.RowAnswer.the-variants as Row
+use Rattle.road.specs.declared.NextAnswer.the-variants as Next
+use Rattle.road.specs.Machine.{Answer, refusal, wrote, ofRow, ofNext, rowOn, rowAnswer, rowBuffer, stationOr, nextOn, nextAnswer, Call, row, next, After, step, trace}
 use Rattle.road.specs.Blade.{rowsOf}
 use Rattle.road.specs.Listing.{listingCalls}
 use Rattle.stationing.proofs.row.Reads as row-says
@@ -78,3 +87,63 @@ any-refused {f = f} {b = b} {calls = calls} ran e = any-run ran ∙ same-refusal
 pub any-listing : {f b : List ℕ} {ts : List After} → Ran f b (listingCalls f) ts → (r : Road) (end : ℕ) → accepted f ≡ got r end → 96 ≤ length b
     → ListingRows r (rowsOf (listingCalls f) ts)
 any-listing {f = f} {b = b} ran = listing-seen f b (any-run ran)
+
+-- ---- any list of calls on any file and buffer has such a run, with the machine's answers
+
+-- a reference to a list
+
+lent : List ℕ → RefT (List ℕ)
+lent l = record { ptr = (0, 0); name = 0; now = l }
+
+row-made : (f : List ℕ) (s : ℕ) (b : List ℕ) (r : RowAnswer) → ofRow r ≡ rowAnswer f s (length b) → RowMet f s b r (rowBuffer f s b)
+unfolding lent
+row-made f s b r e = record {
+  κs = ([], ([], tt));
+  args = (lent f, (s, (lent b, tt)));
+  ends = (lent f, (s, (lent (rowBuffer f s b), tt)));
+  file = refl;
+  station = refl;
+  line = refl;
+  left = refl;
+  ensures = (e, refl);
+}
+
+next-made : (f : List ℕ) (s : ℕ) (r : NextAnswer) → ofNext r ≡ nextAnswer f s → NextMet f s r
+unfolding lent
+next-made f s r e = record { κs = ([], tt); args = (lent f, (s, tt)); ends = (lent f, (s, tt)); file = refl; station = refl; ensures = e }
+
+row-answer : (f : List ℕ) (s room : ℕ) → (r : RowAnswer) × (ofRow r ≡ rowAnswer f s room)
+unfolding rowAnswer
+row-answer f s room = by (accepted f)
+  where
+    by : (g : Got Road) → (r : RowAnswer) × (ofRow r ≡ rowOn s room g)
+    by (refused n p) = (Row.Refused n p, refl)
+    by (got r end) = tests (ltb room 96) (ltb (total r) s)
+      where
+        tests : (c d : Bool) → (a : RowAnswer) × (ofRow a ≡ (if c then refusal 20 0 else if d then refusal 21 0 else wrote (length (line r s))))
+        tests true d = (Row.Refused 20 0, refl)
+        tests false true = (Row.Refused 21 0, refl)
+        tests false false = (Row.Length (length (line r s)), refl)
+
+next-answer : (f : List ℕ) (s : ℕ) → (r : NextAnswer) × (ofNext r ≡ nextAnswer f s)
+unfolding nextAnswer
+next-answer f s = by (accepted f)
+  where
+    listed : (o : Option ℕ) → (a : NextAnswer) × (ofNext a ≡ stationOr o)
+    listed Option.none = (Next.Nothing, refl)
+    listed (Option.some x) = (Next.Station x, refl)
+
+    by : (g : Got Road) → (r : NextAnswer) × (ofNext r ≡ nextOn s g)
+    by (refused n p) = (Next.Refused n p, refl)
+    by (got r end) = listed (nextListed r s)
+
+pub ran : (f b : List ℕ) (calls : List Call) → Ran f b calls (trace f b calls)
+unfolding step trace
+ran f b [] = none
+ran f b (row s ∷ calls) =
+    let b′ = rowBuffer f s b in
+    let a = row-answer f s (length b) in
+    subst (λ (x : Answer). Ran f b (row s ∷ calls) (record { answer = x; buffer = b′ } ∷ trace f b′ calls)) (a .1) (by-row (row-made f s b (a .0) (a .1)) (ran f b′ calls))
+ran f b (next s ∷ calls) =
+    let a = next-answer f s in
+    subst (λ (x : Answer). Ran f b (next s ∷ calls) (record { answer = x; buffer = b } ∷ trace f b calls)) (a .1) (by-next (next-made f s (a .0) (a .1)) (ran f b calls))
