@@ -52,7 +52,7 @@ module _ {f b ks ss b′ cs ns ps fs : List ℕ} (r : Recorded f b ks ss b′ cs
   column : (g : After → ℕ) (xs : List ℕ) → xs ≡ map g (runOf f b ks ss) → length xs ≡ length ks
   column g xs e = ap length e ∙ length-map (runOf f b ks ss) g ∙ run-length f b ks ss even
 
-  row-of-run : (i : ℕ) → IsRow ks cs i → List·Memᴰ (recordedRow (length b) ss ns fs i) (rowsOf (callsOf ks ss) (trace f b (callsOf ks ss)))
+  pub row-of-run : (i : ℕ) → IsRow ks cs i → List·Memᴰ (recordedRow (length b) ss ns fs i) (rowsOf (callsOf ks ss) (trace f b (callsOf ks ss)))
   unfolding runOf
   row-of-run i w =
       subst (λ (ts : List After). List·Memᴰ (recordedRow (length b) ss ns fs i) (rowsOf (callsOf ks ss) ts)) (r .seen)
@@ -109,6 +109,12 @@ module _ (size : ℕ) {a : Row} where
   row-call (zero ∷ ks) (s ∷ ss) (suc (suc zero) ∷ cs) (n ∷ ns) (p ∷ ps) fs m = call-later 0 s 2 n (row-call ks ss cs ns ps (drop size fs) m)
   row-call (zero ∷ ks) (s ∷ ss) (suc (suc (suc c)) ∷ cs) (n ∷ ns) (p ∷ ps) fs m = call-later 0 s (suc (suc (suc c))) n (row-call ks ss cs ns ps (drop size fs) m)
   row-call (suc k ∷ ks) (s ∷ ss) (c ∷ cs) (n ∷ ns) (p ∷ ps) fs m = call-later (suc k) s c n (row-call ks ss cs ns ps (drop size fs) m)
+
+-- of the run that a record shows
+pub call-of-run : {f b ks ss b′ cs ns ps fs : List ℕ} {a : Row} → Recorded f b ks ss b′ cs ns ps fs → List·Memᴰ a (rowsOf (callsOf ks ss) (trace f b (callsOf ks ss))) → RowCall (length b) ks ss cs ns fs a
+unfolding runOf
+call-of-run {b = b} {ks} {ss} {cs = cs} {ns} {ps} {fs} {a} r m =
+    row-call (length b) ks ss cs ns ps fs (subst (λ (ts : List After). List·Memᴰ a (rowsOf (callsOf ks ss) ts)) (sym (r .seen)) m)
 
 -- demand 3 of what was seen, where that is the machine's run
 pub blade-seen : (f b : List ℕ) (calls : List Call) {ts : List After} → ts ≡ trace f b calls → BladeSeen f calls ts

@@ -1,5 +1,5 @@
 -- What the claims of `runs::run` ask for is met: sizes that fit, a record of any run, rows in it, and the listing's run with a row at each listed station.
-use mathlib.Core.Path.{_≡_, refl, sym, ap, _∙_, subst}
+use mathlib.Core.Path.{_≡_, refl, sym, ap, _∙_, subst, subst₂}
 use mathlib.Core.Bool.{true}
 use mathlib.Core.List.{List, [], _∷_, map, List·Memᴰ, Memᴰ·map}
 use Prim.Native.Nat.{ℕ, zero, suc, _*_, _≤_, _<_}
@@ -20,12 +20,12 @@ use Rattle.stationing.specs.Routines.{row-written, row-accepted}
 use Rattle.runs.specs.Answers.{numbersOf, code, first, second}
 use Rattle.runs.specs.Calls.{callOf, callsOf, kindsOf, stationsOf, calls-back, calls-even, runOf}
 use Rattle.runs.specs.Recorded.{Recorded, sized, lastBuffer, framesOf}
-use Rattle.runs.specs.Rows.{IsRow}
+use Rattle.runs.specs.Rows.{Close, IsRow, BladeRecorded}
 use Rattle.runs.specs.Listing.{ListingRecorded}
 use Rattle.runs.proofs.Lengths.{run-length}
-use Rattle.runs.proofs.Sizes.{lent-sized}
+use Rattle.runs.proofs.Sizes.{lent, lent-sized}
 use Rattle.runs.proofs.Seen.{seen-run}
-use Rattle.runs.proofs.Rows.{RowCall, row-call}
+use Rattle.runs.proofs.Rows.{RowCall, row-call, blade-recorded}
 use Rattle.runs.proofs.Listing.{listing-recorded}
 
 -- ---- any run is recorded in slices of sizes that fit
@@ -122,3 +122,12 @@ listing-met f b r end e room =
       calls = back;
       rows = λ x m. row-call (length b) ks ss (run .codes) (run .firsts) (run .seconds) (run .frames) (subst (List·Memᴰ (rowAt r x)) (sym all) (Memᴰ·map (rowAt r) m));
     }
+
+-- demand 3 of it, of the rows of any two listed stations
+pub listing-blade : (f b : List ℕ) (r : Road) (end : ℕ) → accepted f ≡ got r end → 96 ≤ length b → (x y : ℕ) → List·Memᴰ x (listed r) → List·Memᴰ y (listed r) → Close r (rowAt r x) (rowAt r y)
+unfolding BladeRecorded
+listing-blade f b r end e room x y mx my =
+    let w = listing-met f b r end e room in
+    let cx = w .rows x mx in
+    let cy = w .rows y my in
+    subst₂ (Close r) (cx .row-is) (cy .row-is) (blade-recorded (w .run .recorded) (lent (w .run .fits) .stations-size) r end e (cx .call) (cy .call) (cx .is-row) (cy .is-row))
