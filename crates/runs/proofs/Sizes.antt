@@ -53,3 +53,7 @@ lent {k} {s} {c} {n} {p} {l} {f} e =
 pub lent-sized : {k s c n p l f : ℕ} → Lent k s c n p l f → sized k s c n p l f ≡ true
 lent-sized {k} {s} {c} {n} {p} {l} {f} w =
     rw (eq-eqb s k (w .stations-size), eq-eqb c k (w .codes-size), eq-eqb n k (w .firsts-size), eq-eqb p k (w .seconds-size), eq-eqb f (k * l) (w .frames-size))
+
+-- any count of calls, with any size of buffer
+pub sizes-fit : (count size : ℕ) → sized count count count count count size (count * size) ≡ true
+sizes-fit count size = lent-sized {k = count} {l = size} (record { stations-size = refl; codes-size = refl; firsts-size = refl; seconds-size = refl; frames-size = refl })

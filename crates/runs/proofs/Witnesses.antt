@@ -1,4 +1,4 @@
--- What the claims of `runs::run` ask for is met: sizes that fit, a record of any run, rows in it, and the listing's run with a row at each listed station.
+-- What the claims of `runs::run` ask for is met: sizes that fit, a record of any run, a file that is turned away, rows, and the listing's run with a row at each listed station.
 use mathlib.Core.Path.{_≡_, refl, sym, ap, _∙_, subst, subst₂}
 use mathlib.Core.Bool.{true}
 use mathlib.Core.List.{List, [], _∷_, map, List·Memᴰ, Memᴰ·map}
@@ -6,7 +6,7 @@ use Prim.Native.Nat.{ℕ, zero, suc, _*_, _≤_, _<_}
 use native.Mathlib.Omega.{arith}
 use native.Mathlib.Nat.{suc-mul, zero-mul}
 use lib.ListN.{length, getD, length-append, length-map}
-use Rattle.number.specs.Reading.{got}
+use Rattle.number.specs.Reading.{got, refused}
 use Rattle.road.specs.File.{Road}
 use Rattle.road.specs.Exact.{total}
 use Rattle.road.specs.Listed.{listed}
@@ -14,18 +14,20 @@ use Rattle.road.specs.Line.{line}
 use Rattle.road.specs.Rules.{accepted}
 use Rattle.road.specs.Machine.{Call, Answer, wrote, rowAnswer, step, trace}
 use Rattle.road.specs.Listing.{listingCalls}
+use Rattle.road.specs.Compute.{computed}
 use Rattle.theorems.specs.Buffer.{step-length}
 use Rattle.theorems.specs.Visits.{rowAt}
 use Rattle.stationing.specs.Routines.{row-written, row-accepted}
 use Rattle.runs.specs.Answers.{numbersOf, code, first, second}
 use Rattle.runs.specs.Calls.{callOf, callsOf, kindsOf, stationsOf, calls-back, calls-even, runOf}
 use Rattle.runs.specs.Recorded.{Recorded, sized, lastBuffer, framesOf}
-use Rattle.runs.specs.Rows.{Close, IsRow, BladeRecorded}
+use Rattle.runs.specs.Rows.{Close, IsRow, BladeRecorded, TurnedAway}
 use Rattle.runs.specs.Listing.{ListingRecorded}
 use Rattle.runs.proofs.Lengths.{run-length}
 use Rattle.runs.proofs.Sizes.{lent, lent-sized}
 use Rattle.runs.proofs.Seen.{seen-run}
 use Rattle.runs.proofs.Rows.{RowCall, row-call, blade-recorded}
+use Rattle.runs.proofs.Refused.{turned-away}
 use Rattle.runs.proofs.Listing.{listing-recorded}
 
 -- ---- any run is recorded in slices of sizes that fit
@@ -69,6 +71,16 @@ run-recorded f b ks ss even =
       });
       recorded = record { buffer = refl; codes = refl; firsts = refl; seconds = refl; frames = refl; seen = seen-run f b ks ss };
     }
+
+-- ---- any run on the empty file, which is refused "2 at 0"
+
+empty-refused : accepted [] ≡ refused 2 0
+unfolding computed
+empty-refused = refl
+
+pub empty-turned-away : (b ks ss : List ℕ) (even : length ss ≡ length ks)
+    → (let w = run-recorded [] b ks ss even in TurnedAway 2 0 b ks (w .last) (w .codes) (w .firsts) (w .seconds) (w .frames))
+empty-turned-away b ks ss even = turned-away [] empty-refused (run-recorded [] b ks ss even .recorded) even
 
 -- ---- a row call up to T, of an accepted file and in a buffer of 96 bytes or more, leaves a row
 
