@@ -1,21 +1,16 @@
 -- Document 01, "One list, whole": a recorded run of two row calls on that file, at neighbouring listed stations, and what demand 3 says of its rows.
 use mathlib.Core.Path.{_≡_, refl, ap, _∙_, subst₂}
-use mathlib.Core.List.{List, [], _∷_, map, List·Memᴰ, List·Memᴰ·cases-cons}
-use mathlib.Core.Logic.{_⊎_, inl, inr}
-use Prim.Native.Nat.{ℕ, suc, _≤_, _<_}
+use mathlib.Core.List.{List, [], _∷_, map}
+use Prim.Native.Nat.{ℕ, _≤_}
 use native.Mathlib.Omega.{arith}
 use lib.ListN.{getD, replicate}
-use Rattle.number.specs.Reading.{got}
 use Rattle.integers.specs.Fraction.{_-ᶠ_, size, _≤ᶠ_}
 use Rattle.road.specs.Text.{printedLine}
 use Rattle.road.specs.Exact.{Side, edge}
-use Rattle.road.specs.Listed.{listed}
-use Rattle.road.specs.Rules.{accepted}
 use Rattle.road.specs.Blade.{Row, Neighbouring, printedHeight, blade, bound}
-use Rattle.road.specs.Sample.{file}
+use Rattle.road.specs.Sample.{file, road, sample-accepted}
 use Rattle.road.specs.Compute.{computed}
-use Rattle.theorems.specs.Ascends.{Ascends, empty, step, ascends-low}
-use Rattle.alignment.specs.Sample.{road}
+use Rattle.theorems.specs.Neighbours.{listed-neighbouring}
 use Rattle.runs.specs.Answers.{code, first}
 use Rattle.runs.specs.Calls.{runOf}
 use Rattle.runs.specs.Recorded.{Recorded, framesOf}
@@ -38,10 +33,6 @@ before = record { station = 80000; bytes = printedLine "80000 501600 20000 -2500
 abbrev after : Row
 after = record { station = 100000; bytes = printedLine "100000 501800 0 -25000 -25000 501731 501731 0" }
 
-file-accepted : accepted file ≡ got road 48
-unfolding computed
-file-accepted = refl
-
 -- the machine's codes, and its rows
 codes-are : map code (runOf file buffer kinds stations) ≡ 1 ∷ 1 ∷ []
 unfolding computed runOf
@@ -55,31 +46,10 @@ row-after : recordedRow 96 stations (map first (runOf file buffer kinds stations
 unfolding computed runOf
 row-after = refl
 
--- no listed station lies between the two
-listed-are : listed road ≡ 0 ∷ 50000 ∷ 80000 ∷ 100000 ∷ 120000 ∷ 150000 ∷ 200000 ∷ []
-unfolding computed
-listed-are = refl
-
+-- the two are successive in the list
 sample-neighbours : Neighbouring road 80000 100000
-sample-neighbours = record { before = omega arith; free = λ x m l h. zero-or x l h (List·Memᴰ·cases-cons (rw listed-are at m)) }
-  where
-    at : (s x : ℕ) {xs : List ℕ} → s ≤ x → Ascends (suc x) xs → Ascends s (x ∷ xs)
-    at s x h a = step h a
-
-    later : Ascends 100000 (100000 ∷ 120000 ∷ 150000 ∷ 200000 ∷ [])
-    later = at 100000 100000 (omega arith) (at 100001 120000 (omega arith) (at 120001 150000 (omega arith) (at 150001 200000 (omega arith) empty)))
-
-    third-or : (x : ℕ) → 80000 < x → x < 100000 → (x ≡ 80000) ⊎ List·Memᴰ x (100000 ∷ 120000 ∷ 150000 ∷ 200000 ∷ []) → ⊥
-    third-or x l h (inl e) = omega arith
-    third-or x l h (inr m) = omega (arith, ascends-low later m)
-
-    second-or : (x : ℕ) → 80000 < x → x < 100000 → (x ≡ 50000) ⊎ List·Memᴰ x (80000 ∷ 100000 ∷ 120000 ∷ 150000 ∷ 200000 ∷ []) → ⊥
-    second-or x l h (inl e) = omega arith
-    second-or x l h (inr m) = third-or x l h (List·Memᴰ·cases-cons m)
-
-    zero-or : (x : ℕ) → 80000 < x → x < 100000 → (x ≡ 0) ⊎ List·Memᴰ x (50000 ∷ 80000 ∷ 100000 ∷ 120000 ∷ 150000 ∷ 200000 ∷ []) → ⊥
-    zero-or x l h (inl e) = omega arith
-    zero-or x l h (inr m) = second-or x l h (List·Memᴰ·cases-cons m)
+unfolding computed
+sample-neighbours = listed-neighbouring road 2 (omega arith)
 
 -- of any record of that run
 module _ {b′ cs ns ps fs : List ℕ} (w : Recorded file buffer kinds stations b′ cs ns ps fs) where
@@ -96,11 +66,11 @@ module _ {b′ cs ns ps fs : List ℕ} (w : Recorded file buffer kinds stations 
   sample-blade =
       let is-before : recordedRow 96 stations ns fs 0 ≡ before = rw (w .firsts, w .frames) row-before in
       let is-after : recordedRow 96 stations ns fs 1 ≡ after = rw (w .firsts, w .frames) row-after in
-      subst₂ (Close road) is-before is-after (blade-recorded w refl road 48 file-accepted 0 1 sample-first sample-second) sample-neighbours
+      subst₂ (Close road) is-before is-after (blade-recorded w refl road 48 sample-accepted 0 1 sample-first sample-second) sample-neighbours
 
 -- there is one, and one of the listing's run
 pub sample-run : RunRecord file buffer kinds stations
 sample-run = run-recorded file buffer kinds stations refl
 
 pub sample-listing : ListingRecord file buffer road
-sample-listing = listing-met file buffer road 48 file-accepted (omega arith)
+sample-listing = listing-met file buffer road 48 sample-accepted (omega arith)

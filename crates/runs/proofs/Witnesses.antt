@@ -8,7 +8,9 @@ use native.Mathlib.Nat.{suc-mul, zero-mul}
 use lib.ListN.{length, getD, length-append, length-map}
 use Rattle.number.specs.Reading.{got, refused}
 use Rattle.road.specs.File.{Road}
-use Rattle.road.specs.Exact.{total}
+use Rattle.integers.specs.Fraction.{_-ᶠ_, size, _≤ᶠ_}
+use Rattle.road.specs.Exact.{Side, total, edge}
+use Rattle.road.specs.Blade.{printedHeight, blade, bound}
 use Rattle.road.specs.Listed.{listed}
 use Rattle.road.specs.Line.{line}
 use Rattle.road.specs.Rules.{accepted}
@@ -16,6 +18,8 @@ use Rattle.road.specs.Machine.{Call, Answer, wrote, rowAnswer, step, trace}
 use Rattle.road.specs.Listing.{listingCalls}
 use Rattle.road.specs.Compute.{computed}
 use Rattle.theorems.specs.Buffer.{step-length}
+use Rattle.theorems.specs.Members.{item-has}
+use Rattle.theorems.specs.Neighbours.{listed-neighbouring}
 use Rattle.theorems.specs.Visits.{rowAt}
 use Rattle.stationing.specs.Routines.{row-written, row-accepted}
 use Rattle.runs.specs.Answers.{numbersOf, code, first, second}
@@ -143,3 +147,11 @@ listing-blade f b r end e room x y mx my =
     let cx = w .rows x mx in
     let cy = w .rows y my in
     subst₂ (Close r) (cx .row-is) (cy .row-is) (blade-recorded (w .run .recorded) (lent (w .run .fits) .stations-size) r end e (cx .call) (cy .call) (cx .is-row) (cy .is-row))
+
+-- and so of the rows of each two successive listed stations, which are neighbouring
+pub successive-blade : (f b : List ℕ) (r : Road) (end : ℕ) → accepted f ≡ got r end → 96 ≤ length b → (i : ℕ) → suc i < length (listed r)
+    → (d : Side) (x : ℕ) → getD (listed r) i 0 ≤ x → x ≤ getD (listed r) (suc i) 0
+    → size (blade (printedHeight d (rowAt r (getD (listed r) i 0))) (printedHeight d (rowAt r (getD (listed r) (suc i) 0))) (getD (listed r) i 0) (getD (listed r) (suc i) 0) x -ᶠ edge d r x)
+    ≤ᶠ bound r (getD (listed r) i 0) (getD (listed r) (suc i) 0)
+unfolding Close
+successive-blade f b r end e room i h = listing-blade f b r end e room _ _ (item-has 0 (listed r) i (omega arith)) (item-has 0 (listed r) (suc i) h) (listed-neighbouring r i h)
