@@ -115,5 +115,5 @@ pub part-of-list : (f : List ℕ) (s : ℕ) (b : List ℕ) (c : Chunk) → part 
 unfolding listBuffer
 part-of-list f s b c e =
     let p = parted f s (length b) c e in
-    let left : rowsOn s b (accepted f) ≡ overwrite (chunk (p .road) s (length b) .text) b = ap (rowsOn s b) (p .was) ∙ rw (le-ltb (length b) 96 (p .room-left)) in
-    rw (p .given, left) (walked f s b (p .road) (p .end) (p .was) (p .room-left))
+    let buffer : rowsOn s b (accepted f) ≡ overwrite (chunk (p .road) s (length b) .text) b = ap (rowsOn s b) (p .was) ∙ rw (le-ltb (length b) 96 (p .room-left)) in
+    rw (p .given, buffer) (walked f s b (p .road) (p .end) (p .was) (p .room-left))

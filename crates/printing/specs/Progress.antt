@@ -23,8 +23,8 @@ use Rattle.listing.specs.Whole.{restOf, rest-all, PartOf, walked}
 use Rattle.printing.specs.declared.handed.Handed.{Handed}
 
 -- no part yet: the list goes on from station 0
-abbrev pub none : Handed
-none = record { next = From 0; «is_written» = true }
+abbrev pub noPart : Handed
+noPart = record { next = From 0; «is_written» = true }
 
 -- whether there is a part to come
 abbrev pub goesOn : Onward → Bool
@@ -49,11 +49,11 @@ pub record AcceptedAs (f : List ℕ) (a : Alignment) : Type 0 where
 
 -- ---- laws
 -- what a walk from a station leaves in the buffer is the list's part there
-pub part-at : {f : List ℕ} {a : Alignment} {left : List ℕ} {c : Chunk} (s : ℕ) (b : List ℕ)
-    → AcceptedAs f a → 96 ≤ length b → c ≡ answer (chunk (roadIn a) s (length b)) → left ≡ overwrite (chunk (roadIn a) s (length b) .text) b → PartOf f s left c
+pub part-at : {f : List ℕ} {a : Alignment} {filled : List ℕ} {c : Chunk} (s : ℕ) (b : List ℕ)
+    → AcceptedAs f a → 96 ≤ length b → c ≡ answer (chunk (roadIn a) s (length b)) → filled ≡ overwrite (chunk (roadIn a) s (length b) .text) b → PartOf f s filled c
 part-at {f} {a} s b h room e l = rw (e, l) (walked f s b (roadIn a) (h .end) (h .was) room)
 
-pub part-later : {f : List ℕ} {s : ℕ} {left : List ℕ} {c : Chunk} {before after : Onward} → PartOf f s left c → before ≡ From s → after ≡ c .next → Later before after
+pub part-later : {f : List ℕ} {s : ℕ} {buffer : List ℕ} {c : Chunk} {before after : Onward} → PartOf f s buffer c → before ≡ From s → after ≡ c .next → Later before after
 part-later {s = s} {c = c} p b a = rw (b, a) (go (c .next) refl)
   where
     go : (o : Onward) → c .next ≡ o → toCome o < toCome (From s)

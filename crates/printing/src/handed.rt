@@ -3,7 +3,7 @@ ghost use mathlib.Core.Path.{_≡_};
 ghost use mathlib.Core.Bool.{_&&_};
 ghost use mathlib.Core.List.{_++_};
 ghost use Rattle.listing.specs.Whole.{restAfter};
-ghost use Rattle.printing.specs.Progress.{none, goesOn};
+ghost use Rattle.printing.specs.Progress.{noPart, goesOn};
 use libc::STDOUT_FILENO;
 use walk::Onward;
 
@@ -16,7 +16,7 @@ pub struct Handed {
 
 // No part yet: the list goes on from station 0.
 pub fn no_part() -> Handed
-    ensures { λ r. ⌜ r ≡ none ⌝ }
+    ensures { λ r. ⌜ r ≡ noPart ⌝ }
 {
     let next = Onward::From(0);
     Handed {

@@ -3,7 +3,7 @@ use borrow.Author.Needs.{needs}
 use lib.Seq.{length-take-le}
 use denote.Ref.{now}
 use Rattle.listing.specs.Whole.{restAfter}
-use Rattle.printing.specs.Progress.{none, refused-list}
+use Rattle.printing.specs.Progress.{refused-list}
 use Rattle.printing.specs.declared.handed.Handed.{Handed}
 use Rattle.printing.proofs.print_refusal.Statement.{statement}
 use Rattle.printing.proofs.print_refusal.Tie as tie
