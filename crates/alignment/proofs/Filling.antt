@@ -10,12 +10,13 @@ use lib.Seq.{take-suc-set, drop-set-lt, drop-drop, length-take-le}
 use Rattle.number.specs.Reading.{Got, got, refused, andThen, Reading, _>>=_, give, many}
 use Rattle.road.specs.File.{field}
 use Rattle.road.specs.Held.{padded}
-use Rattle.road.specs.Ranged.{field-within, refused-not-got}
-use Rattle.fields.specs.Ends.{reached, onward, Reads}
-use Rattle.alignment.specs.Lists.{following, listFields, Filled}
+use Rattle.road.specs.Ranged.{field-within}
+use Rattle.fields.specs.Ends.{reached, onward, Reads, valueOr, asField}
+use Rattle.alignment.specs.Lists.{listFields, Filled}
+use Rattle.fields.specs.declared.Field.{Field}
 use Rattle.fields.specs.declared.End.{End}
 use Rattle.fields.specs.declared.End.the-variants.{At, Refused}
-use Rattle.fields.specs.Onward.{step, chained, alike}
+use Rattle.fields.specs.Onward.{field-told, step, chained, alike}
 
 -- items that were read stand before those of a reading
 abbrev before : {A : Type 0} → List A → Reading (List A) → Reading (List A)
@@ -106,29 +107,28 @@ module _ {A : Type 0} {one : ℕ → Reading A} {size : ℕ} {blank : A} {s : Li
         ∙ f .rest
         ∙ ap (λ (n : ℕ). replicate (size - n) blank) (e ∙ sym (length-take-le count items (omega (arith, f .long, f .room)))))
 
--- as many items as a count says are in its range, and none where it was refused
-following-few : (low high : ℕ) (s : List ℕ) (from : End) (v : ℕ) (end : End) → Reads (field low high) s from v end → following v end ≤ high
-following-few low high s (At at) v (At next) r = field-within low high s at (sym (r .same)) .high
-following-few low high s (Refused k p) v (At next) r = absurd (refused-not-got (sym (r .same)))
-following-few low high s from v (Refused k p) r = omega arith
+-- a count is in its range, and 0 where it was refused
+count-few : (low high : ℕ) (s : List ℕ) (from : End) → valueOr 0 (onward (field low high) s from) ≤ high
+count-few low high s (At at) = go (field low high s at) refl
+  where
+    go : (g : Got ℕ) → field low high s at ≡ g → valueOr 0 g ≤ high
+    go (got v next) e = field-within low high s at e .high
+    go (refused k p) e = omega arith
+count-few low high s (Refused k p) = omega arith
 
-following-all : {A : Type 0} (one : ℕ → Reading A) (s : List ℕ) (v : ℕ) (end : End) → onward (many one (following v end)) s end ≡ onward (many one v) s end
-following-all one s v (At next) = refl
-following-all one s v (Refused k p) = refl
+-- a count that was read, and the array that a loop fills with as many items
+module _ {A : Type 0} {one : ℕ → Reading A} (low high : ℕ) {size : ℕ} {blank : A} {s : List ℕ} (from : End) {count : Field} (room : high ≤ size) (read : count ≡ asField (onward (field low high) s from)) where
+  pub list-starts : Filling one size blank s (count .value) (count .end) (replicate size blank) 0 (count .end)
+  list-starts =
+      let few : count .value ≤ high = rw read (count-few low high s from) in
+      filling-starts (omega arith)
 
--- a count, the number of items that follow it, and the array that a loop fills with them
-module _ {A : Type 0} {one : ℕ → Reading A} (low high : ℕ) {size : ℕ} {blank : A} {s : List ℕ} {from : End} {v : ℕ} {start : End} {count : ℕ} (room : high ≤ size) (read : Reads (field low high) s from v start) (follow : count ≡ following v start) where
-  pub list-starts : Filling one size blank s count start (replicate size blank) 0 start
-  list-starts = filling-starts (omega (arith, following-few low high s from v start read))
-
-  pub list-ends : {items : List A} {i : ℕ} {end : End} → Filling one size blank s count start items i end → count ≤ i → Filled (listFields low high one) size blank s from items count end
+  pub list-ends : {items : List A} {i : ℕ} {end : End} → Filling one size blank s (count .value) (count .end) items i end → count .value ≤ i → Filled (listFields low high one) size blank s from items (count .value) end
   unfolding listFields
   list-ends {items} {i} {end} f done =
-      let e : i ≡ count = omega arith in
+      let e : i ≡ count .value = omega arith in
       record {
-        read = chained (λ (n : ℕ). many one n) read (record {
-          same = filling-ends f e ∙ ap (λ (n : ℕ). onward (many one n) s start) follow ∙ following-all one s v start;
-        });
-        long = length-take-le count items (omega (arith, f .long, f .room));
+        read = chained (λ (n : ℕ). many one n) (field-told read) (record { same = filling-ends f e });
+        long = length-take-le (count .value) items (omega (arith, f .long, f .room));
         rest = filling-pads f e;
       }

@@ -8,12 +8,6 @@ use Rattle.road.specs.File.{field}
 use Rattle.road.specs.Held.{padded}
 use Rattle.fields.specs.Ends.{Reads}
 use Rattle.fields.specs.declared.End.{End}
-use Rattle.fields.specs.declared.End.the-variants.{At, Refused}
-
--- how many items follow a count that was read; none where it was refused
-abbrev pub following : ℕ → End → ℕ
-following count (At next) = count
-following count (Refused n p) = 0
 
 -- a count from low to high, and as many items
 unfoldable pub listFields : {A : Type 0} → (low high : ℕ) → (ℕ → Reading A) → Reading (List A)

@@ -4,10 +4,9 @@ ghost use Rattle.road.specs.File.{element, tangent, point, read};
 ghost use Rattle.road.specs.Held.{held};
 ghost use Rattle.road.specs.Exact.{blankElement, blankTangent, blankCrossfall};
 ghost use Rattle.fields.specs.Ends.{Reads};
-ghost use Rattle.alignment.specs.Lists.{following, listFields, Filled};
+ghost use Rattle.alignment.specs.Lists.{listFields, Filled};
 ghost use Rattle.alignment.specs.Answer.{heldFields, blankRoad, asRead, turnedAway};
 use fields::End;
-use fields::Field;
 use road::Alignment;
 use road::Crossfall;
 use road::Element;
@@ -37,22 +36,11 @@ struct Crossfalls {
     end: End,
 }
 
-// How many items follow a count: none where the count was refused.
-fn items_after(count: Field) -> usize
-    ensures { λ r. ⌜ r ≡ following (count .value) (count .end) ⌝ }
-{
-    let end = count.end;
-    match end {
-        End::Refused(_, _) => 0,
-        End::At(_) => count.value as usize,
-    }
-}
-
 fn read_elements(file: &[u8], from: End) -> Elements
     ensures { λ r. ⌜ Filled (listFields 1 200 (λ _. element)) 200 blankElement (now (file .entry)) from (r .items) (r .count) (r .end) ⌝ }
 {
     let head = fields::read_field(file, from, 1, 200);
-    let count = items_after(head);
+    let count = head.value as usize;
     let mut items = [Element {
         kind: 0,
         length: 0,
@@ -74,7 +62,7 @@ fn read_tangents(file: &[u8], from: End) -> Tangents
     ensures { λ r. ⌜ Filled (listFields 1 100 tangent) 100 blankTangent (now (file .entry)) from (r .items) (r .count) (r .end) ⌝ }
 {
     let head = fields::read_field(file, from, 1, 100);
-    let count = items_after(head);
+    let count = head.value as usize;
     let mut items = [Tangent {
         length: 0,
         grade: 0,
@@ -96,7 +84,7 @@ fn read_crossfalls(file: &[u8], from: End) -> Crossfalls
     ensures { λ r. ⌜ Filled (listFields 2 200 (λ _. point)) 200 blankCrossfall (now (file .entry)) from (r .items) (r .count) (r .end) ⌝ }
 {
     let head = fields::read_field(file, from, 2, 200);
-    let count = items_after(head);
+    let count = head.value as usize;
     let mut items = [Crossfall {
         station: 0,
         left: 0,
@@ -150,7 +138,8 @@ fn read_fields(file: &[u8]) -> FileRead
     }
 }
 
-fn blank() -> Alignment
+// An alignment with no item and every number 0.
+pub fn blank() -> Alignment
     ensures { λ r. ⌜ r ≡ held blankRoad ⌝ }
 {
     Alignment {

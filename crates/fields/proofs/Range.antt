@@ -1,46 +1,74 @@
 -- A number in its range or refused, over plain values. Assumes nothing.
-use mathlib.Core.Path.{_≡_, refl, sym}
-use mathlib.Core.Bool.{Bool, true, false}
+use mathlib.Core.Path.{_≡_, refl, sym, ap, _∙_}
+use mathlib.Core.Bool.{Bool, true, false, _&&_}
 use mathlib.Core.List.{List}
 use Prim.Native.Nat.{ℕ, zero, suc}
-use native.Mathlib.Omega.{arith}
-use lib.IntN.{ℤ}
-use Rattle.number.specs.Reading.{refused, andThen}
+use lib.Dec.{leb}
+use lib.IntN.{pos, negsuc}
+use Rattle.number.specs.Reading.{got, refused, andThen}
 use Rattle.number.specs.Number.{number, signedOf}
-use Rattle.road.specs.File.{inRange, field, signed, half}
-use Rattle.fields.specs.Ends.{reached, onward, Reads, ranged}
-use Rattle.fields.specs.declared.End.{End}
+use Rattle.number.specs.Meaning.{meaning}
+use Rattle.number.specs.declared.Number.{Number}
+use Rattle.number.specs.declared.Number.the-variants.{Value, Faulty}
+use Rattle.reader.specs.Following.{placeAfter, ThreeRead}
+use Rattle.reader.specs.declared.ThreeNumbers.{ThreeNumbers}
+use Rattle.road.specs.File.{inRange, field, signed, between, half, point}
+use Rattle.fields.specs.Ends.{reached, onward, Reads, endOf, asField, asSigned}
+use Rattle.fields.specs.Onward.{field-told, signed-told, chained, gives}
+use Rattle.fields.specs.Standing.{valueOf, endAt, taken, Holds, Stands, ThreeStand}
+use Rattle.fields.specs.declared.Field.{Field}
 use Rattle.fields.specs.declared.SignedField.{SignedField}
+use Rattle.fields.specs.declared.End.{End}
 use Rattle.fields.specs.declared.End.the-variants.{At, Refused}
 
--- a number that is told what it says, in its range or refused
-pub fitted : {A : Type 0} (says : ℕ → A) (fits : A → Bool) {s : List ℕ} {from next : End} {v : ℕ}
-    → Reads number s from v next
-    → Reads (λ s at. andThen (number s at) λ w n. inRange fits (says w) at s n) s from (says v) (ranged from next (fits (says v)))
-unfolding inRange
-fitted says fits {s} {from} {next} {v} r = record { same = start from (r .same) }
-  where
-    taken : (at : ℕ) (next : End) → reached v next ≡ number s at → (b : Bool) → fits (says v) ≡ b → reached (says v) (ranged (At at) next b) ≡ andThen (number s at) λ w n. inRange fits (says w) at s n
-    taken at (At n) e true p = simp (sym e, p)
-    taken at (At n) e false p = simp (sym e, p)
-    taken at (Refused k q) e true p = simp (sym e)
-    taken at (Refused k q) e false p = simp (sym e)
+holding : {P Q : ℕ → Type 0} (from : End) → ((at : ℕ) → P at → Q at) → Holds P from → Holds Q from
+holding (At at) f h = f at h
+holding (Refused k p) f h = tt
 
-    stays : (k p : ℕ) (next : End) → reached v next ≡ refused k p → (b : Bool) → reached (says v) (ranged (Refused k p) next b) ≡ refused k p
-    stays k p (At n) e b = let z : _≡_ {A = ℕ} 0 1 = cc in absurd (omega arith)
-    stays k p (Refused l q) e true = let same-k : l ≡ k = cc in let same-p : q ≡ p = cc in cc
-    stays k p (Refused l q) e false = let same-k : l ≡ k = cc in let same-p : q ≡ p = cc in cc
+module _ {A : Type 0} (says : ℕ → A) (fits : A → Bool) where
+  -- a number that stands where reading ended says what is read there
+  pub in-range : (s : List ℕ) (from : End) (n : Number) → Stands s from n → taken says fits from n ≡ onward (λ s at. andThen (number s at) λ v next. inRange fits (says v) at s next) s from
+  unfolding inRange
+  in-range s (At at) (Value v next) stands = simp (sym stands) (go (fits (says v)) refl)
+    where
+      go : (b : Bool) → fits (says v) ≡ b → reached (says v) (endAt at (Value v next) (fits (says v))) ≡ inRange fits (says v) at s next
+      go true e = simp e
+      go false e = simp e
+  in-range s (At at) Faulty stands = simp (sym stands)
+  in-range s (Refused k p) n stands = refl
 
-    start : (from : End) → reached v next ≡ onward number s from → reached (says v) (ranged from next (fits (says v))) ≡ onward (λ s at. andThen (number s at) λ w n. inRange fits (says w) at s n) s from
-    start (At at) e = taken at next e (fits (says v)) refl
-    start (Refused k p) e = stays k p next e (fits (says v))
+  -- a reader that moved past a number stands where reading ended, if the number was not refused
+  pub moved : (P : ℕ → Type 0) (from : End) (n : Number) → Holds (λ at. P (placeAfter n at)) from → Holds P (endOf (taken says fits from n))
+  moved P (At at) (Value v next) h = go (fits (says v))
+    where
+      go : (b : Bool) → Holds P (endOf (reached (says v) (endAt at (Value v next) b)))
+      go true = h
+      go false = tt
+  moved P (At at) Faulty h = tt
+  moved P (Refused k p) n h = tt
+
+-- the three numbers of a point, each read where the one before it ended
+module _ (s : List ℕ) (from : End) (t : ThreeNumbers) {station : Field} {left right : SignedField}
+    (stand : ThreeStand s from t)
+    (is-station : station ≡ asField (taken (λ v. v) (λ v. leb 0 v && leb v 100000000) from (t .first)))
+    (is-left : left ≡ asSigned (taken signedOf (between (negsuc 79999) (pos 80000)) (station .end) (t .second)))
+    (is-right : right ≡ asSigned (taken signedOf (between (negsuc 79999) (pos 80000)) (left .end) (t .third))) where
+  second-place : (P : ℕ → Type 0) → Holds (λ at. P (placeAfter (t .first) at)) from → Holds P (station .end)
+  second-place P h = rw is-station (moved (λ v. v) (λ v. leb 0 v && leb v 100000000) P from (t .first) h)
+
+  third-place : (P : ℕ → Type 0) → Holds (λ at. P (placeAfter (t .second) at)) (station .end) → Holds P (left .end)
+  third-place P h = rw is-left (moved signedOf (between (negsuc 79999) (pos 80000)) P (station .end) (t .second) h)
+
+  pub point-read : Reads point s from (record { station = station .value; left = left .value; right = right .value }) (right .end)
+  unfolding point field signed
+  point-read =
+      let first = holding from (λ at (r : ThreeRead s at t). r .first) stand in
+      let second = second-place (λ at. meaning (t .second) at ≡ number s at) (holding from (λ at (r : ThreeRead s at t). r .second) stand) in
+      let third = third-place (λ at. meaning (t .third) at ≡ number s at) (second-place (λ at. meaning (t .third) (placeAfter (t .second) at) ≡ number s (placeAfter (t .second) at)) (holding from (λ at (r : ThreeRead s at t). r .third) stand)) in
+      chained _ (field-told (is-station ∙ ap asField (in-range (λ v. v) _ s from (t .first) first)))
+      (chained _ (signed-told (is-left ∙ ap asSigned (in-range signedOf _ s (station .end) (t .second) second)))
+      (chained _ (signed-told (is-right ∙ ap asSigned (in-range signedOf _ s (left .end) (t .third) third))) gives))
 
 pub half-more : (follow : ℕ) → (follow ≡ 0 → ⊥) → half follow ≡ field 0 1000000
 half-more zero none = absurd (none refl)
 half-more (suc k) none = refl
-
--- a signed value, tested on the number that it is written as
-pub signed-fitted : (fits : ℤ → Bool) {s : List ℕ} {from next : End} {v : ℕ} {test : Bool} {r : SignedField}
-    → Reads number s from v next → test ≡ fits (signedOf v) → r ≡ record { value = signedOf v; end = ranged from next test } → Reads (signed fits) s from (r .value) (r .end)
-unfolding signed
-signed-fitted fits read tested same = rw (same, tested) (fitted signedOf fits read)

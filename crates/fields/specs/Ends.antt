@@ -1,11 +1,22 @@
--- What the code's `End` says: where reading goes on, or the refusal that stays.
+-- What the code's `End` says: where reading goes on, or the refusal that stays; and its answers of a value beside an end.
 use Prim.Native.Nat.{ℕ}
 use mathlib.Core.Path.{_≡_}
-use mathlib.Core.Bool.{Bool, true, false}
 use mathlib.Core.List.{List}
+use lib.IntN.{ℤ, pos}
 use Rattle.number.specs.Reading.{Got, got, refused, Reading}
+use Rattle.road.specs.File.{Head}
+use Rattle.road.specs.Exact.{blankElement, blankTangent, blankCrossfall}
+use Rattle.road.specs.declared.Element.{Element}
+use Rattle.road.specs.declared.Tangent.{Tangent}
+use Rattle.road.specs.declared.Crossfall.{Crossfall}
 use Rattle.fields.specs.declared.End.{End}
 use Rattle.fields.specs.declared.End.the-variants.{At, Refused}
+use Rattle.fields.specs.declared.Field.{Field}
+use Rattle.fields.specs.declared.SignedField.{SignedField}
+use Rattle.fields.specs.declared.HeadRead.{HeadRead}
+use Rattle.fields.specs.declared.ElementRead.{ElementRead}
+use Rattle.fields.specs.declared.TangentRead.{TangentRead}
+use Rattle.fields.specs.declared.CrossfallRead.{CrossfallRead}
 
 -- a value that was read, and where reading ended
 abbrev pub reached : {A : Type 0} → A → End → Got A
@@ -21,9 +32,39 @@ onward m s (Refused n p) = refused n p
 pub record Reads {A : Type 0} (m : Reading A) (s : List ℕ) (from : End) (a : A) (end : End) : Type 0 where
   pub same : reached a end ≡ onward m s from
 
--- the end of a number that begins at one end and stops at another: refusal 3 at its first byte where it does not fit
-abbrev pub ranged : (from next : End) → (fits : Bool) → End
-ranged from next true = next
-ranged from (Refused n p) false = Refused n p
-ranged (Refused n p) (At next) false = Refused n p
-ranged (At at) (At next) false = Refused 3 at
+-- the value that was read; beside a refusal stands the blank one
+abbrev pub valueOr : {A : Type 0} → A → Got A → A
+valueOr blank (got a next) = a
+valueOr blank (refused n p) = blank
+
+-- where reading ended
+abbrev pub endOf : {A : Type 0} → Got A → End
+endOf (got a next) = At next
+endOf (refused n p) = Refused n p
+
+abbrev pub asField : Got ℕ → Field
+asField g = record { value = valueOr 0 g; end = endOf g }
+
+abbrev pub asSigned : Got ℤ → SignedField
+asSigned g = record { value = valueOr (pos 0) g; end = endOf g }
+
+abbrev pub asElement : Got Element → ElementRead
+asElement g = record { item = valueOr blankElement g; end = endOf g }
+
+abbrev pub asTangent : Got Tangent → TangentRead
+asTangent g = record { item = valueOr blankTangent g; end = endOf g }
+
+abbrev pub asCrossfall : Got Crossfall → CrossfallRead
+asCrossfall g = record { item = valueOr blankCrossfall g; end = endOf g }
+
+abbrev pub blankHead : Head
+blankHead = record { class = 0; terrain = 0; step = 0; ramp = 0 }
+
+abbrev pub headWith : Head → End → HeadRead
+headWith h end = record { class = h .class; terrain = h .terrain; step = h .step; ramp = h .ramp; end = end }
+
+abbrev pub asHead : Got Head → HeadRead
+asHead g = headWith (valueOr blankHead g) (endOf g)
+
+abbrev pub headOf : HeadRead → Head
+headOf r = record { class = r .class; terrain = r .terrain; step = r .step; ramp = r .ramp }

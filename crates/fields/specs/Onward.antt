@@ -2,10 +2,50 @@
 use mathlib.Core.Path.{_≡_, refl, sym, ap, _∙_}
 use mathlib.Core.List.{List}
 use Prim.Native.Nat.{ℕ}
+use lib.IntN.{ℤ, pos}
+use Rattle.road.specs.File.{Head}
+use Rattle.road.specs.Exact.{blankElement, blankTangent, blankCrossfall}
+use Rattle.road.specs.declared.Element.{Element}
+use Rattle.road.specs.declared.Tangent.{Tangent}
+use Rattle.road.specs.declared.Crossfall.{Crossfall}
 use Rattle.number.specs.Reading.{Got, got, refused, andThen, Reading, _>>=_, give}
-use Rattle.fields.specs.Ends.{reached, onward, Reads}
+use Rattle.fields.specs.Ends.{reached, onward, Reads, valueOr, endOf, asField, asSigned, asElement, asTangent, asCrossfall, asHead, headOf, blankHead}
+use Rattle.fields.specs.declared.Field.{Field}
+use Rattle.fields.specs.declared.SignedField.{SignedField}
+use Rattle.fields.specs.declared.HeadRead.{HeadRead}
+use Rattle.fields.specs.declared.ElementRead.{ElementRead}
+use Rattle.fields.specs.declared.TangentRead.{TangentRead}
+use Rattle.fields.specs.declared.CrossfallRead.{CrossfallRead}
 use Rattle.fields.specs.declared.End.{End}
 use Rattle.fields.specs.declared.End.the-variants.{At, Refused}
+
+-- what was read is had back from its value and its end
+back : {A : Type 0} (blank : A) {m : Reading A} {s : List ℕ} {from : End} → Reads m s from (valueOr blank (onward m s from)) (endOf (onward m s from))
+back {A} blank {m} {s} {from} = record { same = go (onward m s from) }
+  where
+    go : (g : Got A) → reached (valueOr blank g) (endOf g) ≡ g
+    go (got a n) = refl
+    go (refused k p) = refl
+
+-- each answer says its value and its end
+module _ {s : List ℕ} {from : End} where
+  pub field-told : {m : Reading ℕ} {r : Field} → r ≡ asField (onward m s from) → Reads m s from (r .value) (r .end)
+  field-told e = rw e (back 0)
+
+  pub signed-told : {m : Reading ℤ} {r : SignedField} → r ≡ asSigned (onward m s from) → Reads m s from (r .value) (r .end)
+  signed-told e = rw e (back (pos 0))
+
+  pub element-told : {m : Reading Element} {r : ElementRead} → r ≡ asElement (onward m s from) → Reads m s from (r .item) (r .end)
+  element-told e = rw e (back blankElement)
+
+  pub tangent-told : {m : Reading Tangent} {r : TangentRead} → r ≡ asTangent (onward m s from) → Reads m s from (r .item) (r .end)
+  tangent-told e = rw e (back blankTangent)
+
+  pub crossfall-told : {m : Reading Crossfall} {r : CrossfallRead} → r ≡ asCrossfall (onward m s from) → Reads m s from (r .item) (r .end)
+  crossfall-told e = rw e (back blankCrossfall)
+
+  pub head-told : {m : Reading Head} {r : HeadRead} → r ≡ asHead (onward m s from) → Reads m s from (headOf r) (r .end)
+  head-told e = rw e (back blankHead)
 
 -- after a value, reading goes on with it
 pub step : {A B : Type 0} {m : Reading A} (f : A → Reading B) {s : List ℕ} {from next : End} {a : A} → Reads m s from a next → onward (_>>=_ m f) s from ≡ onward (f a) s next
@@ -22,6 +62,10 @@ step {A} {m} f {s} {from} {next} {a} first = split from ∙ ap (λ (g : Got A). 
 -- one reading after the other
 pub chained : {A B : Type 0} {m : Reading A} (f : A → Reading B) {s : List ℕ} {from next end : End} {a : A} {b : B} → Reads m s from a next → Reads (f a) s next b end → Reads (_>>=_ m f) s from b end
 chained f first second = record { same = second .same ∙ sym (step f first) }
+
+-- an answer made of a value and its end is the answer of the reading that gives them
+pub answers : {A R : Type 0} (answer : Got A → R) (s : List ℕ) (from : End) {m : Reading A} {a : A} {end : End} {r : R} → Reads m s from a end → r ≡ answer (reached a end) → r ≡ answer (onward m s from)
+answers answer s from read e = e ∙ ap answer (read .same)
 
 -- readings that agree at every place
 pub alike : {A : Type 0} (m n : Reading A) (s : List ℕ) (from : End) → ((at : ℕ) → m s at ≡ n s at) → onward m s from ≡ onward n s from

@@ -1,5 +1,7 @@
-use Rattle.fields.specs.Onward.{chained, gives}
+use denote.Ref.{now}
 use Rattle.road.specs.File.{headFields}
+use Rattle.fields.specs.Ends.{asHead}
+use Rattle.fields.specs.Onward.{field-told, chained, gives, answers}
 use borrow.Author.Needs.{needs}
 use Rattle.fields.proofs.read_head.Statement.{statement}
 use Rattle.fields.proofs.read_head.Tie as tie
@@ -7,11 +9,12 @@ use Rattle.fields.proofs.read_head.Tie as tie
 returns : tie.Need-returns
 unfolding headFields
 returns c =
-    let class = c .before .before .before .read-field in
-    let terrain = c .before .before .read-field2 in
-    let step = c .before .read-field3 in
-    let ramp = c .read-field4 in
-    chained _ (class .ensures) (chained _ (terrain .ensures) (chained _ (step .ensures) (chained _ (ramp .ensures) gives)))
+    let a = c .before .before .before .before .before .before .args in
+    let class = c .before .before .before .before .read-field in
+    let terrain = c .before .before .before .read-field2 in
+    let step = c .before .before .read-field3 in
+    let ramp = c .before .read-field4 in
+    answers asHead (now (a .file)) (a .from) (chained _ (field-told (class .ensures)) (chained _ (field-told (terrain .ensures)) (chained _ (field-told (step .ensures)) (chained _ (field-told (ramp .ensures)) gives)))) (c .head-or-blank .ensures)
 
 pub read-head-spec : {M : Type 1} → statement M
-read-head-spec = tie.close (tie.spec (λ c _. search needs) (λ c _. search needs) (λ c _. search needs) (λ c _. search needs) returns)
+read-head-spec = tie.close (tie.spec (λ c _. search needs) (λ c _. search needs) (λ c _. search needs) (λ c _. search needs) (λ c _. search needs) returns)

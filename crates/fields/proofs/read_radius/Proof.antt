@@ -1,4 +1,6 @@
-use Rattle.fields.specs.Onward.{gives}
+use denote.Ref.{now}
+use Rattle.fields.specs.Ends.{asSigned}
+use Rattle.fields.specs.Onward.{gives, answers}
 use borrow.Author.Needs.{needs}
 use Rattle.fields.proofs.read_radius.Statement.{statement}
 use Rattle.fields.proofs.read_radius.Tie as tie
@@ -7,7 +9,9 @@ returns : tie.Need-returns
 returns c = rw (c .before .if1 .taken) (c .read-sized .ensures)
 
 returns-2 : tie.Need-returns-2
-returns-2 c = rw (c .if1 .left) gives
+returns-2 c =
+    let a = c .before .before .before .args in
+    rw (c .before .if1 .left) (answers asSigned (now (a .file)) (a .from) gives (c .signed-or-blank .ensures))
 
 pub read-radius-spec : {M : Type 1} → statement M
-read-radius-spec = tie.close (tie.spec (λ c _. search needs) returns returns-2)
+read-radius-spec = tie.close (tie.spec (λ c _. search needs) returns (λ c _. search needs) returns-2)

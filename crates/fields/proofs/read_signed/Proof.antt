@@ -1,14 +1,19 @@
-use borrow.Author.Needs.{needs}
+use mathlib.Core.Path.{ap, _∙_}
 use lib.IntN.{pos, negℤ}
-use Rattle.road.specs.File.{between}
-use Rattle.fields.proofs.Range.{signed-fitted}
+use denote.Ref.{now}
+use Rattle.number.specs.Number.{signedOf}
+use Rattle.road.specs.File.{signed, between}
+use Rattle.fields.specs.Ends.{asSigned}
+use Rattle.fields.proofs.Range.{in-range}
+use borrow.Author.Needs.{needs}
 use Rattle.fields.proofs.read_signed.Statement.{statement}
 use Rattle.fields.proofs.read_signed.Tie as tie
 
 returns : tie.Need-returns
+unfolding signed
 returns c =
-    let a = c .before .before .before .before .args in
-    signed-fitted (between (negℤ (pos (a .low))) (pos (a .high))) (c .before .before .read-number .ensures) (c .before .signed-within .ensures) (c .signed-field .ensures)
+    let a = c .before .before .before .args in
+    c .between-from .ensures ∙ ap asSigned (in-range signedOf (between (negℤ (pos (a .low))) (pos (a .high))) (now (a .file)) (a .from) (c .before .number-where .result) (c .before .number-where .ensures))
 
 pub read-signed-spec : {M : Type 1} → statement M
-read-signed-spec = tie.close (tie.spec (λ c _. search needs) (λ c _. search needs) (λ c _. search needs) returns)
+read-signed-spec = tie.close (tie.spec (λ c _. search needs) (λ c _. search needs) returns)

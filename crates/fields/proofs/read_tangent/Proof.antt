@@ -1,8 +1,10 @@
-use mir.Val.{toZ, ofZ}
-use mir.Syntax.{w32}
+use denote.Ref.{now}
 use mathlib.Core.Path.{_≡_}
-use Rattle.fields.specs.Onward.{chained, gives}
+use mir.Syntax.{w32}
+use mir.Val.{toZ, ofZ}
 use Rattle.road.specs.File.{tangent}
+use Rattle.fields.specs.Ends.{asTangent}
+use Rattle.fields.specs.Onward.{field-told, signed-told, chained, gives, answers}
 use borrow.Author.Needs.{needs}
 use Rattle.fields.proofs.read_tangent.Statement.{statement}
 use Rattle.fields.proofs.read_tangent.Tie as tie
@@ -10,11 +12,12 @@ use Rattle.fields.proofs.read_tangent.Tie as tie
 returns : tie.Need-returns
 unfolding tangent
 returns c =
-    let length = c .before .before .before .read-field in
-    let grade = c .before .before .read-signed in
-    let half = c .before .read-half in
+    let a = c .before .before .before .before .before .before .args in
+    let length = c .before .before .before .before .read-field in
+    let grade = c .before .before .before .read-signed in
+    let half = c .before .before .read-half in
     let same : toZ w32 (ofZ w32 (grade .result .value)) ≡ grade .result .value = search needs in
-    simp same (chained _ (length .ensures) (chained _ (grade .ensures) (chained _ (half .ensures) gives)))
+    answers asTangent (now (a .file)) (a .from) (chained _ (field-told (length .ensures)) (chained _ (signed-told (grade .ensures)) (chained _ (field-told (half .ensures)) gives))) (simp same at (c .tangent-or-blank .ensures))
 
 pub read-tangent-spec : {M : Type 1} → statement M
-read-tangent-spec = tie.close (tie.spec (λ c _. search needs) (λ c _. search needs) (λ c _. search needs) returns)
+read-tangent-spec = tie.close (tie.spec (λ c _. search needs) (λ c _. search needs) (λ c _. search needs) (λ c _. search needs) returns)
