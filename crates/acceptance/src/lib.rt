@@ -1,9 +1,8 @@
 // A file is accepted, or turned away by the first refusal in the paper's order.
 ghost use mathlib.Core.Path.{_≡_};
-ghost use Rattle.road.specs.Limits.{limits};
-ghost use Rattle.road.specs.Held.{roadIn, Counted};
-ghost use Rattle.road.specs.Rules.{judged, under, accepted};
-ghost use Rattle.acceptance.specs.Acceptance.{asGot, outcomeOf};
+ghost use Rattle.number.specs.Reading.{refused};
+ghost use Rattle.road.specs.Rules.{accepted};
+ghost use Rattle.acceptance.specs.Acceptance.{asAccepted};
 use fields::End;
 use road::Alignment;
 use rules::Verdict;
@@ -14,41 +13,38 @@ pub enum Outcome {
     Refused(u32, usize),
 }
 
-// What a file gives; its alignment counts where the file is accepted.
+// What a file gives; beside a refusal the alignment is blank: no item, and every number 0.
 pub struct Acceptance {
     pub alignment: Alignment,
     pub outcome: Outcome,
 }
 
-// Refusals 5 to 19 of an alignment that was read up to a place.
-fn outcome_of(a: Alignment, next: usize) -> Outcome
-    requires { ⌜ Counted a ⌝ }
-    ensures { λ r. ⌜ r ≡ outcomeOf (judged (limits (roadIn a)) (roadIn a)) next ⌝ }
+// The refusal, with the blank alignment beside it.
+fn turned_away(number: u32, place: usize) -> Acceptance
+    ensures { λ r. ⌜ r ≡ asAccepted (refused number place) ⌝ }
 {
-    match rules::judge_own(a) {
-        Verdict::Breaks(number, place) => Outcome::Refused(number, place),
-        Verdict::Passes => Outcome::Accepted(next),
+    let blank = alignment::blank();
+    Acceptance {
+        alignment: blank,
+        outcome: Outcome::Refused(number, place),
     }
 }
 
 // Refusals 1 to 19 of a file, or its alignment.
 pub fn accept(file: &[u8]) -> Acceptance
-    ensures { λ r. ⌜ asGot r ≡ accepted (now (file .entry)) ⌝ ∗ ⌜ Counted (r .alignment) ⌝ }
+    ensures { λ r. ⌜ r ≡ asAccepted (accepted (now (file .entry))) ⌝ }
 {
     let read = alignment::read(file);
     let held = read.alignment;
     let end = read.end;
     match end {
-        End::Refused(number, place) => Acceptance {
-            alignment: held,
-            outcome: Outcome::Refused(number, place),
-        },
-        End::At(next) => {
-            let outcome = outcome_of(held, next);
-            Acceptance {
+        End::Refused(number, place) => turned_away(number, place),
+        End::At(next) => match rules::judge_own(held) {
+            Verdict::Breaks(number, place) => turned_away(number, place),
+            Verdict::Passes => Acceptance {
                 alignment: held,
-                outcome,
-            }
-        }
+                outcome: Outcome::Accepted(next),
+            },
+        },
     }
 }

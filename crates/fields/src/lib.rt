@@ -116,8 +116,14 @@ fn field_or_blank(value: u32, end: End) -> Field
     ensures { λ r. ⌜ r ≡ asField (reached value end) ⌝ }
 {
     match end {
-        End::Refused(_, _) => Field { value: 0, end },
-        End::At(_) => Field { value, end },
+        End::Refused(k, p) => Field {
+            value: 0,
+            end: End::Refused(k, p),
+        },
+        End::At(next) => Field {
+            value,
+            end: End::At(next),
+        },
     }
 }
 
@@ -125,8 +131,14 @@ fn signed_or_blank(value: i32, end: End) -> SignedField
     ensures { λ r. ⌜ r ≡ asSigned (reached value end) ⌝ }
 {
     match end {
-        End::Refused(_, _) => SignedField { value: 0, end },
-        End::At(_) => SignedField { value, end },
+        End::Refused(k, p) => SignedField {
+            value: 0,
+            end: End::Refused(k, p),
+        },
+        End::At(next) => SignedField {
+            value,
+            end: End::At(next),
+        },
     }
 }
 
@@ -192,15 +204,18 @@ fn element_or_blank(item: Element, end: End) -> ElementRead
     ensures { λ r. ⌜ r ≡ asElement (reached item end) ⌝ }
 {
     match end {
-        End::Refused(_, _) => ElementRead {
+        End::Refused(k, p) => ElementRead {
             item: Element {
                 kind: 0,
                 length: 0,
                 radius: 0,
             },
-            end,
+            end: End::Refused(k, p),
         },
-        End::At(_) => ElementRead { item, end },
+        End::At(next) => ElementRead {
+            item,
+            end: End::At(next),
+        },
     }
 }
 
@@ -235,15 +250,18 @@ fn tangent_or_blank(item: Tangent, end: End) -> TangentRead
     ensures { λ r. ⌜ r ≡ asTangent (reached item end) ⌝ }
 {
     match end {
-        End::Refused(_, _) => TangentRead {
+        End::Refused(k, p) => TangentRead {
             item: Tangent {
                 length: 0,
                 grade: 0,
                 half: 0,
             },
-            end,
+            end: End::Refused(k, p),
         },
-        End::At(_) => TangentRead { item, end },
+        End::At(next) => TangentRead {
+            item,
+            end: End::At(next),
+        },
     }
 }
 
@@ -268,15 +286,18 @@ fn crossfall_or_blank(item: Crossfall, end: End) -> CrossfallRead
     ensures { λ r. ⌜ r ≡ asCrossfall (reached item end) ⌝ }
 {
     match end {
-        End::Refused(_, _) => CrossfallRead {
+        End::Refused(k, p) => CrossfallRead {
             item: Crossfall {
                 station: 0,
                 left: 0,
                 right: 0,
             },
-            end,
+            end: End::Refused(k, p),
         },
-        End::At(_) => CrossfallRead { item, end },
+        End::At(next) => CrossfallRead {
+            item,
+            end: End::At(next),
+        },
     }
 }
 
@@ -308,12 +329,12 @@ fn head_or_blank(read: HeadRead) -> HeadRead
 {
     let end = read.end;
     match end {
-        End::Refused(_, _) => HeadRead {
+        End::Refused(k, p) => HeadRead {
             class: 0,
             terrain: 0,
             step: 0,
             ramp: 0,
-            end,
+            end: End::Refused(k, p),
         },
         End::At(_) => read,
     }
