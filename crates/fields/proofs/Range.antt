@@ -15,7 +15,7 @@ use Rattle.reader.specs.declared.ThreeNumbers.{ThreeNumbers}
 use Rattle.road.specs.File.{inRange, field, signed, between, half, point}
 use Rattle.fields.specs.Ends.{reached, onward, Reads, endOf, asField, asSigned}
 use Rattle.fields.specs.Onward.{field-told, signed-told, chained, gives}
-use Rattle.fields.specs.Standing.{valueOf, endAt, taken, Holds, Stands, ThreeStand}
+use Rattle.fields.specs.Standing.{valueOf, endAt, endFrom, taken, Holds, Stands, ThreeStand}
 use Rattle.fields.specs.declared.Field.{Field}
 use Rattle.fields.specs.declared.SignedField.{SignedField}
 use Rattle.fields.specs.declared.End.{End}
@@ -46,6 +46,11 @@ module _ {A : Type 0} (says : ℕ → A) (fits : A → Bool) where
       go false = tt
   moved P (At at) Faulty h = tt
   moved P (Refused k p) n h = tt
+
+-- a number at fault fits nothing
+pub at-fault : {A : Type 0} (a : A) (says : ℕ → A) (fits : A → Bool) (from : End) → reached a (endFrom from Faulty false) ≡ taken says fits from Faulty
+at-fault a says fits (At at) = refl
+at-fault a says fits (Refused k p) = refl
 
 -- the three numbers of a point, each read where the one before it ended
 module _ (s : List ℕ) (from : End) (t : ThreeNumbers) {station : Field} {left right : SignedField}

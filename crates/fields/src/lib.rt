@@ -6,7 +6,7 @@ ghost use lib.IntN.{pos, negℤ};
 ghost use Rattle.number.specs.Number.{signedOf};
 ghost use Rattle.road.specs.File.{field, signed, between, inSize, radius, element, half, tangent, point, headFields};
 ghost use Rattle.fields.specs.Ends.{reached, onward, asField, asSigned, asElement, asTangent, asCrossfall, asHead, headOf};
-ghost use Rattle.fields.specs.Standing.{valueOf, endAt, endFrom, taken, Stands, ThreeStand};
+ghost use Rattle.fields.specs.Standing.{endAt, endFrom, taken, Stands, ThreeStand};
 use number::Number;
 use reader::ThreeNumbers;
 use road::Crossfall;
@@ -77,16 +77,6 @@ fn three_where(file: &[u8], from: End) -> ThreeNumbers
     }
 }
 
-// The value of a number; 0 where it is at fault.
-fn value_of(n: Number) -> u32
-    ensures { λ r. ⌜ r ≡ valueOf n ⌝ }
-{
-    match n {
-        Number::Faulty => 0,
-        Number::Value(value, _) => value,
-    }
-}
-
 // Refusal 2 or 3 at the number's first byte, where it is at fault or does not fit.
 fn end_at(at: usize, n: Number, fits: bool) -> End
     ensures { λ r. ⌜ r ≡ endAt at n fits ⌝ }
@@ -142,29 +132,37 @@ fn signed_or_blank(value: i32, end: End) -> SignedField
     }
 }
 
-// The value of a number that stands where reading ended, from low to high or refused.
+// The value of a number that stands where reading ended, from low to high; a number at fault fits nothing.
 fn field_from(from: End, n: Number, low: u32, high: u32) -> Field
     ensures { λ r. ⌜ r ≡ asField (taken (λ v. v) (λ v. leb low v && leb v high) from n) ⌝ }
 {
-    let value = value_of(n);
+    let Number::Value(value, _) = n else {
+        return field_or_blank(0, end_from(from, n, false));
+    };
     let end = end_from(from, n, (low <= value) & (value <= high));
     field_or_blank(value, end)
 }
 
-// The signed value that a number was written for, in its range or refused.
-fn signed_from(from: End, n: Number, fits: bool) -> SignedField
-    ensures { λ r. ⌜ r ≡ asSigned (reached (signedOf (valueOf n)) (endFrom from n fits)) ⌝ }
-{
-    let value = value_of(n);
-    let end = end_from(from, n, fits);
-    signed_or_blank(number::signed_of(value), end)
-}
-
-// A signed value from -low to high, of a number that stands where reading ended.
+// The signed value that such a number was written for, from -low to high.
 fn between_from(from: End, n: Number, low: u32, high: u32) -> SignedField
     ensures { λ r. ⌜ r ≡ asSigned (taken signedOf (between (negℤ (pos low)) (pos high)) from n) ⌝ }
 {
-    signed_from(from, n, number::signed_within(value_of(n), low, high))
+    let Number::Value(value, _) = n else {
+        return signed_or_blank(0, end_from(from, n, false));
+    };
+    let end = end_from(from, n, number::signed_within(value, low, high));
+    signed_or_blank(number::signed_of(value), end)
+}
+
+// The same, from low to high in size.
+fn sized_from(from: End, n: Number, low: u32, high: u32) -> SignedField
+    ensures { λ r. ⌜ r ≡ asSigned (taken signedOf (inSize low high) from n) ⌝ }
+{
+    let Number::Value(value, _) = n else {
+        return signed_or_blank(0, end_from(from, n, false));
+    };
+    let end = end_from(from, n, number::size_within(value, low, high));
+    signed_or_blank(number::signed_of(value), end)
 }
 
 pub fn read_field(file: &[u8], from: End, low: u32, high: u32) -> Field
@@ -187,7 +185,7 @@ fn read_sized(file: &[u8], from: End, low: u32, high: u32) -> SignedField
     ensures { λ r. ⌜ r ≡ asSigned (onward (signed (inSize low high)) (now (file .entry)) from) ⌝ }
 {
     let n = number_where(file, from);
-    signed_from(from, n, number::size_within(value_of(n), low, high))
+    sized_from(from, n, low, high)
 }
 
 // Only an arc has a radius.

@@ -1,9 +1,23 @@
+use mathlib.Core.Path.{ap, _∙_}
+use mathlib.Core.Bool.{_&&_}
+use Prim.Native.Nat.{ℕ}
+use lib.Dec.{leb}
+use Rattle.fields.specs.Ends.{asField}
+use Rattle.fields.proofs.Range.{at-fault}
 use borrow.Author.Needs.{needs}
 use Rattle.fields.proofs.field_from.Statement.{statement}
 use Rattle.fields.proofs.field_from.Tie as tie
 
 returns : tie.Need-returns
-returns c = simp (c .before .before .value-of .ensures, c .before .end-from .ensures) at (c .field-or-blank .ensures)
+returns c =
+    let a = c .before .before .before .before .args in
+    let fault = c .before .before .enum-told .given .1 in
+    rw fault (simp (c .before .end-from .ensures, fault) at (c .field-or-blank .ensures) ∙ ap asField (at-fault 0 (λ (v : ℕ). v) (λ (v : ℕ). leb (a .low) v && leb v (a .high)) (a .from)))
+
+returns-2 : tie.Need-returns-2
+returns-2 c =
+    let is = c .before .before .before .n .given .1 in
+    rw is (simp (c .before .end-from2 .ensures, is) at (c .field-or-blank2 .ensures))
 
 pub field-from-spec : {M : Type 1} → statement M
-field-from-spec = tie.close (tie.spec (λ c _. search needs) (λ c _. search needs) (λ c _. search needs) returns)
+field-from-spec = tie.close (tie.spec (λ c. search needs) (λ c. search needs) (λ c _. search needs) (λ c _. search needs) returns (λ c _. search needs) (λ c _. search needs) returns-2)
