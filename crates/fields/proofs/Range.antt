@@ -15,7 +15,7 @@ use Rattle.reader.specs.declared.ThreeNumbers.{ThreeNumbers}
 use Rattle.road.specs.File.{inRange, field, signed, between, half, point}
 use Rattle.fields.specs.Ends.{reached, onward, Reads, endOf, asField, asSigned}
 use Rattle.fields.specs.Onward.{field-told, signed-told, chained, gives}
-use Rattle.fields.specs.Standing.{valueOf, endAt, endFrom, taken, Holds, Stands, ThreeStand}
+use Rattle.fields.specs.Standing.{valueOf, endAt, endFrom, said, Holds, Stands, ThreeStand}
 use Rattle.fields.specs.declared.Field.{Field}
 use Rattle.fields.specs.declared.SignedField.{SignedField}
 use Rattle.fields.specs.declared.End.{End}
@@ -27,7 +27,7 @@ holding (Refused k p) f h = tt
 
 module _ {A : Type 0} (says : ℕ → A) (fits : A → Bool) where
   -- a number that stands where reading ended says what is read there
-  pub in-range : (s : List ℕ) (from : End) (n : Number) → Stands s from n → taken says fits from n ≡ onward (λ s at. andThen (number s at) λ v next. inRange fits (says v) at s next) s from
+  pub in-range : (s : List ℕ) (from : End) (n : Number) → Stands s from n → said says fits from n ≡ onward (λ s at. andThen (number s at) λ v next. inRange fits (says v) at s next) s from
   unfolding inRange
   in-range s (At at) (Value v next) stands = simp (sym stands) (go (fits (says v)) refl)
     where
@@ -38,7 +38,7 @@ module _ {A : Type 0} (says : ℕ → A) (fits : A → Bool) where
   in-range s (Refused k p) n stands = refl
 
   -- a reader that moved past a number stands where reading ended, if the number was not refused
-  pub moved : (P : ℕ → Type 0) (from : End) (n : Number) → Holds (λ at. P (placeAfter n at)) from → Holds P (endOf (taken says fits from n))
+  pub moved : (P : ℕ → Type 0) (from : End) (n : Number) → Holds (λ at. P (placeAfter n at)) from → Holds P (endOf (said says fits from n))
   moved P (At at) (Value v next) h = go (fits (says v))
     where
       go : (b : Bool) → Holds P (endOf (reached (says v) (endAt at (Value v next) b)))
@@ -48,16 +48,16 @@ module _ {A : Type 0} (says : ℕ → A) (fits : A → Bool) where
   moved P (Refused k p) n h = tt
 
 -- a number at fault fits nothing
-pub at-fault : {A : Type 0} (a : A) (says : ℕ → A) (fits : A → Bool) (from : End) → reached a (endFrom from Faulty false) ≡ taken says fits from Faulty
+pub at-fault : {A : Type 0} (a : A) (says : ℕ → A) (fits : A → Bool) (from : End) → reached a (endFrom from Faulty false) ≡ said says fits from Faulty
 at-fault a says fits (At at) = refl
 at-fault a says fits (Refused k p) = refl
 
 -- the three numbers of a point, each read where the one before it ended
 module _ (s : List ℕ) (from : End) (t : ThreeNumbers) {station : Field} {left right : SignedField}
     (stand : ThreeStand s from t)
-    (is-station : station ≡ asField (taken (λ v. v) (λ v. leb 0 v && leb v 100000000) from (t .first)))
-    (is-left : left ≡ asSigned (taken signedOf (between (negsuc 79999) (pos 80000)) (station .end) (t .second)))
-    (is-right : right ≡ asSigned (taken signedOf (between (negsuc 79999) (pos 80000)) (left .end) (t .third))) where
+    (is-station : station ≡ asField (said (λ v. v) (λ v. leb 0 v && leb v 100000000) from (t .first)))
+    (is-left : left ≡ asSigned (said signedOf (between (negsuc 79999) (pos 80000)) (station .end) (t .second)))
+    (is-right : right ≡ asSigned (said signedOf (between (negsuc 79999) (pos 80000)) (left .end) (t .third))) where
   second-place : (P : ℕ → Type 0) → Holds (λ at. P (placeAfter (t .first) at)) from → Holds P (station .end)
   second-place P h = rw is-station (moved (λ v. v) (λ v. leb 0 v && leb v 100000000) P from (t .first) h)
 

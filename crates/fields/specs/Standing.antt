@@ -31,8 +31,8 @@ endFrom (At at) n fits = endAt at n fits
 endFrom (Refused k p) n fits = Refused k p
 
 -- what a number says where reading ended, in its range or refused
-abbrev pub taken : {A : Type 0} → (says : ℕ → A) → (fits : A → Bool) → End → Number → Got A
-taken says fits from n = reached (says (valueOf n)) (endFrom from n (fits (says (valueOf n))))
+abbrev pub said : {A : Type 0} → (says : ℕ → A) → (fits : A → Bool) → End → Number → Got A
+said says fits from n = reached (says (valueOf n)) (endFrom from n (fits (says (valueOf n))))
 
 -- what holds of the place where reading ended, if it was not refused
 abbrev pub Holds : (ℕ → Type 0) → End → Type 0

@@ -6,7 +6,7 @@ ghost use lib.IntN.{pos, negℤ};
 ghost use Rattle.number.specs.Number.{signedOf};
 ghost use Rattle.road.specs.File.{field, signed, between, inSize, radius, element, half, tangent, point, headFields};
 ghost use Rattle.fields.specs.Ends.{reached, onward, asField, asSigned, asElement, asTangent, asCrossfall, asHead, headOf};
-ghost use Rattle.fields.specs.Standing.{endAt, endFrom, taken, Stands, ThreeStand};
+ghost use Rattle.fields.specs.Standing.{endAt, endFrom, said, Stands, ThreeStand};
 use number::Number;
 use reader::ThreeNumbers;
 use road::Crossfall;
@@ -134,7 +134,7 @@ fn signed_or_blank(value: i32, end: End) -> SignedField
 
 // The value of a number that stands where reading ended, from low to high; a number at fault fits nothing.
 fn field_from(from: End, n: Number, low: u32, high: u32) -> Field
-    ensures { λ r. ⌜ r ≡ asField (taken (λ v. v) (λ v. leb low v && leb v high) from n) ⌝ }
+    ensures { λ r. ⌜ r ≡ asField (said (λ v. v) (λ v. leb low v && leb v high) from n) ⌝ }
 {
     let Number::Value(value, _) = n else {
         return field_or_blank(0, end_from(from, n, false));
@@ -145,7 +145,7 @@ fn field_from(from: End, n: Number, low: u32, high: u32) -> Field
 
 // The signed value that such a number was written for, from -low to high.
 fn between_from(from: End, n: Number, low: u32, high: u32) -> SignedField
-    ensures { λ r. ⌜ r ≡ asSigned (taken signedOf (between (negℤ (pos low)) (pos high)) from n) ⌝ }
+    ensures { λ r. ⌜ r ≡ asSigned (said signedOf (between (negℤ (pos low)) (pos high)) from n) ⌝ }
 {
     let Number::Value(value, _) = n else {
         return signed_or_blank(0, end_from(from, n, false));
@@ -156,7 +156,7 @@ fn between_from(from: End, n: Number, low: u32, high: u32) -> SignedField
 
 // The same, from low to high in size.
 fn sized_from(from: End, n: Number, low: u32, high: u32) -> SignedField
-    ensures { λ r. ⌜ r ≡ asSigned (taken signedOf (inSize low high) from n) ⌝ }
+    ensures { λ r. ⌜ r ≡ asSigned (said signedOf (inSize low high) from n) ⌝ }
 {
     let Number::Value(value, _) = n else {
         return signed_or_blank(0, end_from(from, n, false));
