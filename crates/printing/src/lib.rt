@@ -81,15 +81,16 @@ fn print_part(file: &[u8], a: Alignment, lane: u32, before: Handed, out: &mut [u
 }
 
 // The rows of an accepted file, part by part, up to the last one or to one that was not written.
-fn print_rows(file: &[u8], a: Alignment, out: &mut [u8]) -> Handed
-    requires { ⌜ AcceptedAs (now file) a ⌝ ∗ ⌜ 96 ≤ length (now out) ⌝ }
+fn print_rows(file: &[u8], a: Alignment) -> Handed
+    requires { ⌜ AcceptedAs (now file) a ⌝ }
     ensures { λ r. ⌜ (r .«is_written» ≡ true → r .next ≡ Done) ⌝ }
 {
     let limits = limits::limits_of(a.class, a.terrain);
     let lane = limits.lane;
+    let mut out = [0u8; 131072];
     let mut handed = handed::no_part();
     while handed::goes_on(handed) {
-        handed = print_part(file, a, lane, handed, out);
+        handed = print_part(file, a, lane, handed, &mut out);
     }
     handed
 }
@@ -104,6 +105,5 @@ pub fn print_list(file: &[u8]) -> Handed
     if let Outcome::Refused(number, place) = outcome {
         return print_refusal(file, number, place);
     }
-    let mut out = [0u8; 131072];
-    print_rows(file, alignment, &mut out)
+    print_rows(file, alignment)
 }

@@ -1,5 +1,4 @@
 use mathlib.Core.Path.{sym}
-use native.Mathlib.Omega.{arith}
 use borrow.Author.Needs.{needs}
 use Rattle.acceptance.specs.Acceptance.{taken, counted}
 use Rattle.stationing.specs.Routines.{ready}
@@ -11,11 +10,10 @@ print-refusal-requires c κs = let r = c .before .before .before .before .accept
 
 print-rows-requires : tie.Need-print-rows-requires
 print-rows-requires c κs =
-    let r = c .before .before .before .before .accept in
-    let e = taken _ (r .result) (r .ensures) (c .before .enum-told .given .1) in
-    (record { end = _; was = sym e; ready = ready _ (r .result .alignment) _ e (counted _ (r .result) (r .ensures)) }, omega arith)
+    let r = c .before .before .before .accept in
+    let e = taken _ (r .result) (r .ensures) (c .enum-told .given .1) in
+    record { end = _; was = sym e; ready = ready _ (r .result .alignment) _ e (counted _ (r .result) (r .ensures)) }
 
 pub print-list-spec : {M : Type 1} → statement M
 print-list-spec =
-    tie.close
-    (tie.spec (λ c _. search needs) (λ c. search needs) print-refusal-requires (λ c. search needs) (λ c. search needs) (λ c. search needs) print-rows-requires (λ c. search needs))
+    tie.close (tie.spec (λ c _. search needs) (λ c. search needs) print-refusal-requires (λ c. search needs) (λ c. search needs) print-rows-requires (λ c. search needs))
