@@ -1,7 +1,7 @@
 -- The cases of a test program's input: a number at a place, and the part that stands after its length.
 use mathlib.Core.Path.{_≡_, sym, ap, ap₂, _∙_}
 use mathlib.Core.List.{List}
-use Prim.Native.Nat.{ℕ, _+_, _≤_, _<_, min}
+use Prim.Native.Nat.{ℕ, _+_, _≤_, min}
 use native.Mathlib.Omega.{arith}
 use lib.ListN.{length}
 use Rattle.number.specs.Reading.{Got, got, refused}

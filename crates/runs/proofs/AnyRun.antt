@@ -1,5 +1,5 @@
 -- Any list of calls, each of which met its routine's own contract, in the contract's generated reading, is the machine's run; so demand 3 holds of it, and the rest.
-use mathlib.Core.Path.{_≡_, refl, sym, ap, _∙_, subst}
+use mathlib.Core.Path.{_≡_, refl, _∙_, subst}
 use mathlib.Core.Bool.{Bool, true, false}
 use mathlib.Core.Option.{Option}
 use mathlib.Core.List.{List, [], _∷_}
@@ -91,16 +91,15 @@ any-listing {f = f} {b = b} ran = listing-seen f b (any-run ran)
 -- ---- any list of calls on any file and buffer has such a run, with the machine's answers
 
 -- a reference to a list
-
-lent : List ℕ → RefT (List ℕ)
-lent l = record { ptr = (0, 0); name = 0; now = l }
+reference : List ℕ → RefT (List ℕ)
+reference l = record { ptr = (0, 0); name = 0; now = l }
 
 row-made : (f : List ℕ) (s : ℕ) (b : List ℕ) (r : RowAnswer) → ofRow r ≡ rowAnswer f s (length b) → RowMet f s b r (rowBuffer f s b)
-unfolding lent
+unfolding reference
 row-made f s b r e = record {
   κs = ([], ([], tt));
-  args = (lent f, (s, (lent b, tt)));
-  ends = (lent f, (s, (lent (rowBuffer f s b), tt)));
+  args = (reference f, (s, (reference b, tt)));
+  ends = (reference f, (s, (reference (rowBuffer f s b), tt)));
   file = refl;
   station = refl;
   line = refl;
@@ -109,8 +108,8 @@ row-made f s b r e = record {
 }
 
 next-made : (f : List ℕ) (s : ℕ) (r : NextAnswer) → ofNext r ≡ nextAnswer f s → NextMet f s r
-unfolding lent
-next-made f s r e = record { κs = ([], tt); args = (lent f, (s, tt)); ends = (lent f, (s, tt)); file = refl; station = refl; ensures = e }
+unfolding reference
+next-made f s r e = record { κs = ([], tt); args = (reference f, (s, tt)); ends = (reference f, (s, tt)); file = refl; station = refl; ensures = e }
 
 row-answer : (f : List ℕ) (s room : ℕ) → (r : RowAnswer) × (ofRow r ≡ rowAnswer f s room)
 unfolding rowAnswer

@@ -140,9 +140,9 @@ listing-met f b r end e room =
     }
 
 -- demand 3 of it, of the rows of any two listed stations
-pub listing-blade : (f b : List ℕ) (r : Road) (end : ℕ) → accepted f ≡ got r end → 96 ≤ length b → (x y : ℕ) → List·Memᴰ x (listed r) → List·Memᴰ y (listed r) → Close r (rowAt r x) (rowAt r y)
+pub listed-blade : (f b : List ℕ) (r : Road) (end : ℕ) → accepted f ≡ got r end → 96 ≤ length b → (x y : ℕ) → List·Memᴰ x (listed r) → List·Memᴰ y (listed r) → Close r (rowAt r x) (rowAt r y)
 unfolding BladeRecorded
-listing-blade f b r end e room x y mx my =
+listed-blade f b r end e room x y mx my =
     let w = listing-met f b r end e room in
     let cx = w .rows x mx in
     let cy = w .rows y my in
@@ -154,4 +154,4 @@ pub successive-blade : (f b : List ℕ) (r : Road) (end : ℕ) → accepted f �
     → size (blade (printedHeight d (rowAt r (getD (listed r) i 0))) (printedHeight d (rowAt r (getD (listed r) (suc i) 0))) (getD (listed r) i 0) (getD (listed r) (suc i) 0) x -ᶠ edge d r x)
     ≤ᶠ bound r (getD (listed r) i 0) (getD (listed r) (suc i) 0)
 unfolding Close
-successive-blade f b r end e room i h = listing-blade f b r end e room _ _ (item-has 0 (listed r) i (omega arith)) (item-has 0 (listed r) (suc i) h) (listed-neighbouring r i h)
+successive-blade f b r end e room i h = listed-blade f b r end e room _ _ (item-has 0 (listed r) i (omega arith)) (item-has 0 (listed r) (suc i) h) (listed-neighbouring r i h)

@@ -3,7 +3,7 @@ use Prim.Native.Nat.{_≤_}
 use borrow.Author.Needs.{needs}
 use denote.Ref.{now}
 use lib.ListN.{length}
-use Rattle.cases.specs.Cases.{itemAt, partAt, within, part-inside}
+use Rattle.cases.specs.Cases.{partAt, within, part-inside}
 use Rattle.cases.specs.declared.Item.{Item}
 use Rattle.cases.specs.declared.Part.{Part}
 use Rattle.cases.proofs.part_at.Statement.{statement}

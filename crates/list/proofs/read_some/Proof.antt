@@ -1,5 +1,4 @@
 use mathlib.Core.Path.{subst}
-use Prim.Native.Nat.{ℕ}
 use borrow.Author.Needs.{needs}
 use Rattle.list.specs.Within.{Within, bytes-within}
 use Rattle.list.proofs.read_some.Statement.{statement}
