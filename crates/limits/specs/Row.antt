@@ -6,7 +6,6 @@ use Rattle.road.specs.Limits.{limitsIn, table}
 use Rattle.road.specs.Limits as road
 use Rattle.limits.specs.declared.Limits.{Limits}
 
--- refusal 17 has the two crossfalls
 abbrev pub asLimits : Limits → road.Limits
 asLimits l = record {
   straightMax = l .«straight_max»;
@@ -19,8 +18,9 @@ asLimits l = record {
   sagRadius = l .«sag_radius»;
   crestRadius = l .«crest_radius»;
   lane = l .lane;
-  crossfallMin = 25000;
-  crossfallMax = 70000;
+  crossfallMin = l .«crossfall_min»;
+  crossfallMax = l .«crossfall_max»;
+  crown = l .crown;
 }
 
 -- the limits of a row of the table

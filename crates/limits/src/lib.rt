@@ -1,7 +1,11 @@
 // The rule book's limits as a table of tables: a row for each speed, a column for each limit.
 ghost use mathlib.Core.Path.{_≡_};
-ghost use Rattle.road.specs.Limits.{speed, limitsAt};
+ghost use mathlib.Core.List.{[]};
+ghost use Prim.Native.Nat.{_<_};
+ghost use lib.ListN.{getD};
+ghost use Rattle.road.specs.Limits.{speed, table, limitsAt, limitsOf};
 ghost use Rattle.limits.specs.Row.{asLimits, limitsInRow};
+use road::Head;
 
 // The mark for "-", "no such rule".
 pub const NO_RULE: u32 = 4294967295;
@@ -97,6 +101,13 @@ pub const LIMITS: [[u32; 10]; 7] = [
 // Speed in km/h by terrain 1, 2, 3, classes 1 to 4.
 pub const SPEEDS: [[u32; 3]; 4] = [[100, 100, 80], [100, 80, 70], [80, 60, 50], [60, 50, 40]];
 
+// The crossfalls of refusal 17, and that of refusal 19 on both sides, unsigned; in ppm, at every speed.
+pub const CROSSFALL_MIN: u32 = 25000;
+
+pub const CROSSFALL_MAX: u32 = 70000;
+
+pub const CROWN: u32 = 25000;
+
 pub struct Limits {
     pub straight_max: u32,
     pub straight_min: u32,
@@ -108,27 +119,55 @@ pub struct Limits {
     pub sag_radius: u32,
     pub crest_radius: u32,
     pub lane: u32,
+    pub crossfall_min: u32,
+    pub crossfall_max: u32,
+    pub crown: u32,
+}
+
+// A cell of the table. It alone reads the table: each place that reads a constant table has a copy of it on its stack.
+fn cell(row: usize, column: usize) -> u32
+    requires { ⌜ row < 7 ⌝ ∗ ⌜ column < 10 ⌝ }
+    ensures { λ r. ⌜ r ≡ getD (getD table row []) column 0 ⌝ }
+{
+    LIMITS[row][column]
 }
 
 // The limits of a row of the table; past its rows every cell is 0.
 pub fn limits_in(row: usize) -> Limits
     ensures { λ r. ⌜ asLimits r ≡ limitsInRow row ⌝ }
 {
-    let mut cells: [u32; 10] = [0; 10];
     if row < 7 {
-        cells = LIMITS[row];
-    }
-    Limits {
-        straight_max: cells[0],
-        straight_min: cells[1],
-        radius_min: cells[2],
-        radius_both: cells[3],
-        parameter_min: cells[4],
-        arc_min: cells[5],
-        grade_max: cells[6],
-        sag_radius: cells[7],
-        crest_radius: cells[8],
-        lane: cells[9],
+        Limits {
+            straight_max: cell(row, 0),
+            straight_min: cell(row, 1),
+            radius_min: cell(row, 2),
+            radius_both: cell(row, 3),
+            parameter_min: cell(row, 4),
+            arc_min: cell(row, 5),
+            grade_max: cell(row, 6),
+            sag_radius: cell(row, 7),
+            crest_radius: cell(row, 8),
+            lane: cell(row, 9),
+            crossfall_min: CROSSFALL_MIN,
+            crossfall_max: CROSSFALL_MAX,
+            crown: CROWN,
+        }
+    } else {
+        Limits {
+            straight_max: 0,
+            straight_min: 0,
+            radius_min: 0,
+            radius_both: 0,
+            parameter_min: 0,
+            arc_min: 0,
+            grade_max: 0,
+            sag_radius: 0,
+            crest_radius: 0,
+            lane: 0,
+            crossfall_min: CROSSFALL_MIN,
+            crossfall_max: CROSSFALL_MAX,
+            crown: CROWN,
+        }
     }
 }
 
@@ -152,9 +191,9 @@ pub fn speed_of(class: u32, terrain: u32) -> u32
     }
 }
 
-// The limits of a class and a terrain.
-pub fn limits_of(class: u32, terrain: u32) -> Limits
-    ensures { λ r. ⌜ asLimits r ≡ limitsAt (speed class terrain) ⌝ }
+// The limits of a road, from its head.
+pub fn limits_of(head: Head) -> Limits
+    ensures { λ r. ⌜ asLimits r ≡ limitsOf head ⌝ }
 {
-    limits_at(speed_of(class, terrain))
+    limits_at(speed_of(head.class, head.terrain))
 }

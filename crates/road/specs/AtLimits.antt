@@ -3,11 +3,10 @@
 use Prim.Native.Nat.{ℕ, suc, _+_, _*_}
 use mathlib.Core.Path.{_≡_, refl}
 use mathlib.Core.List.{List, [], _∷_, _++_, map}
-use mathlib.Core.Bool.{true, false}
 use lib.ListN.{length, take, drop, replicate}
 use lib.Dec.{eqb}
 use lib.IntN.{ℤ, pos, negsuc, negℤ}
-use Rattle.number.specs.Number.{written}
+use Rattle.file_numbers.specs.Number.{written}
 use Rattle.road.specs.Base.{if_then_else_, countFrom, joined}
 use Rattle.road.specs.Machine.{refusal, wrote}
 use Rattle.road.specs.Starred.{at40, file, roadFile, slope, point, even, straightRoad, tiltedBend, bendRoad, vertexRoad, theNumber, theRow, theFile, Outcome, value, passes, turnedAway, answered, says, Item, item}

@@ -5,15 +5,15 @@ use mathlib.Core.Path.{_≡_, refl, sym, subst}
 use mathlib.Core.Bool.{Bool, true, false, _&&_, _||_}
 use mathlib.Core.List.{List, [], _∷_, List·Memᴰ, List·Memᴰ·head, List·Memᴰ·tail}
 use native.Mathlib.Omega.{arith}
-use lib.IntN.{ℤ, pos, negsuc, _*ℤ_}
+use lib.IntN.{pos, negsuc, _*ℤ_}
 use lib.ListN.{replicate}
 use lib.Dec.{ltb}
 use borrow.Author.Tests.{lt-ltb, ltb-true}
-use Rattle.number.specs.Reading.{got}
-use Rattle.number.specs.Number.{shortest, written}
+use Rattle.file_numbers.specs.Reading.{got}
+use Rattle.file_numbers.specs.Number.{shortest, written}
 use Rattle.integers.specs.Fraction.{Frac, whole, _-ᶠ_, size, _≤ᶠ_, _≈ᶠ_}
 use Rattle.road.specs.Base.{joined}
-use Rattle.road.specs.Tests.{true-false, and-both, or-left, or-right}
+use Rattle.laws_of_lists.specs.Tests.{true-false, and-both, or-left, or-right}
 use Rattle.road.specs.Text.{printedLine}
 use Rattle.road.specs.File.{Road}
 use Rattle.road.specs.Exact.{Side, left, right, edge}
@@ -43,10 +43,7 @@ file = joined shortest numbers
 
 abbrev pub road : Road
 road = record {
-  class = 4;
-  terrain = 3;
-  step = 50_000;
-  ramp = 5000;
+  head = record { class = 4; terrain = 3; step = 50_000; ramp = 5000 };
   plan = record { kind = 0; length = 22_075; radius = pos 0 } ∷ [];
   start = pos 0;
   tangents = record { length = 11_025; grade = negsuc 19_999; half = 11_000 } ∷ record { length = 11_050; grade = pos 20_000; half = 0 } ∷ [];

@@ -1,14 +1,13 @@
 -- Document 01, "The blade over a whole run": demand 3.
-use Prim.Native.Nat.{ℕ, zero, suc, _+_, _*_, _-_, _<_, _≤_}
+use Prim.Native.Nat.{ℕ, _+_, _*_, _-_, _<_, _≤_}
 use mathlib.Core.Path.{_≡_}
 use mathlib.Core.List.{List, [], _∷_, List·Memᴰ}
-use mathlib.Core.Bool.{Bool, true, false, _&&_, _||_}
+use mathlib.Core.Bool.{_&&_, _||_}
 use mathlib.Core.Option.{Option, none, some}
 use lib.ListN.{take}
-use lib.Dec.{ltb, eqb}
-use lib.IntN.{ℤ, pos, negℤ, _-ℤ_, _*ℤ_}
-use Rattle.number.specs.Reading.{Got, got, refused}
-use Rattle.road.specs.Base.{if_then_else_, firstThat}
+use lib.IntN.{ℤ, pos, _-ℤ_, _*ℤ_}
+use Rattle.file_numbers.specs.Reading.{got}
+use Rattle.road.specs.Base.{firstThat}
 use Rattle.integers.specs.Fraction.{Frac, _÷_, whole, _+ᶠ_, _-ᶠ_, _×ᶠ_, size, _≤ᶠ_}
 use Rattle.decimal.specs.Decimal.{numberIn}
 use Rattle.road.specs.File.{Road}

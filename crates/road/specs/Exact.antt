@@ -1,11 +1,11 @@
 -- Document 01, "The exact road".
 use Prim.Native.Nat.{ℕ, zero, suc, _+_, _*_, _-_}
 use mathlib.Core.List.{List, [], _∷_}
-use mathlib.Core.Bool.{Bool, true, false, _&&_}
+use mathlib.Core.Bool.{Bool, _&&_}
 use mathlib.Core.Option.{Option, none, some}
 use lib.ListN.{length, take, getD}
 use lib.Dec.{leb, ltb, eqb}
-use lib.IntN.{ℤ, pos, negsuc, _+ℤ_, _-ℤ_, _*ℤ_}
+use lib.IntN.{ℤ, pos, _+ℤ_, _-ℤ_, _*ℤ_}
 use Rattle.road.specs.Base.{if_then_else_, firstThat, lastThat, sumOf}
 use Rattle.integers.specs.Fraction.{Frac, _÷_, whole, _over_, _+ᶠ_, _-ᶠ_, _×ᶠ_}
 use Rattle.road.specs.File.{Road}
@@ -147,9 +147,13 @@ crossfallBy d r i s =
 unfoldable pub crossfall : Side → Road → ℕ → Frac
 crossfall d r s = crossfallBy d r (pointAt r s) s
 
+-- the lane width of a road, that of its speed's row
+unfoldable pub laneWidth : Road → ℕ
+laneWidth r = limits r .lane
+
 -- "The drop is crossfall × lane width / 10⁶, from the exact crossfall."
 unfoldable pub edgeDrop : Side → Road → ℕ → Frac
-edgeDrop d r s = crossfall d r s ×ᶠ (pos (limits r .lane) ÷ 1_000_000)
+edgeDrop d r s = crossfall d r s ×ᶠ (pos (laneWidth r) ÷ 1_000_000)
 
 -- "The exact edge is the exact height plus the exact drop"
 unfoldable pub edge : Side → Road → ℕ → Frac
@@ -158,12 +162,12 @@ edge d r s = height r s +ᶠ edgeDrop d r s
 -- ---- curvature
 
 -- "10⁹/R"
-abbrev pub bend : ℤ → Frac
-bend radius = 1_000_000_000 over radius
+abbrev pub arcCurvature : ℤ → Frac
+arcCurvature radius = 1_000_000_000 over radius
 
 -- what an element's neighbour has where the two meet: an arc its own curvature, a straight 0
 unfoldable pub endCurvature : Road → ℕ → Frac
-endCurvature r i = if isArc (elementOf r i) then bend (elementOf r i .radius) else whole (pos 0)
+endCurvature r i = if isArc (elementOf r i) then arcCurvature (elementOf r i .radius) else whole (pos 0)
 
 abbrev pub startCurvature : Road → ℕ → Frac
 startCurvature r zero = whole (pos 0)
@@ -179,7 +183,7 @@ clothoidCurvature r i s =
 unfoldable pub curvatureOn : Road → ℕ → ℕ → Frac
 curvatureOn r i s =
     if isStraight (elementOf r i) then whole (pos 0)
-    else if isArc (elementOf r i) then bend (elementOf r i .radius)
+    else if isArc (elementOf r i) then arcCurvature (elementOf r i .radius)
     else clothoidCurvature r i s
 
 unfoldable pub curvature : Road → ℕ → Frac

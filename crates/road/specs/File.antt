@@ -6,19 +6,17 @@ use lib.ListN.{length}
 use lib.Dec.{leb, ltb, eqb}
 use lib.IntN.{ℤ, pos, negsuc, natAbs}
 use lib.Signed.{leZ}
-use Rattle.number.specs.Reading.{Got, got, refused, andThen, Reading, _>>=_, give, many}
+use Rattle.file_numbers.specs.Reading.{Got, got, refused, andThen, Reading, _>>=_, give, many}
 use Rattle.road.specs.Base.{if_then_else_}
-use Rattle.number.specs.Number.{number, signedOf}
+use Rattle.file_numbers.specs.Number.{number, signedOf}
+use Rattle.road.specs.declared.Head.{Head}
 use Rattle.road.specs.declared.Element.{Element}
 use Rattle.road.specs.declared.Tangent.{Tangent}
 use Rattle.road.specs.declared.Crossfall.{Crossfall}
 
 -- what the file says
 pub record Road : Type 0 where
-  pub class : ℕ
-  pub terrain : ℕ
-  pub step : ℕ
-  pub ramp : ℕ
+  pub head : Head
   pub plan : List Element
   pub start : ℤ
   pub tangents : List Tangent
@@ -77,12 +75,6 @@ point = do
   give (record { station = station; left = left; right = right })
 
 -- "class 1 long-distance, 2 connecting, 3 collecting, 4 access; terrain 1 flat, 2 hilly, 3 mountain; step 1,000 to 100,000; ramp limit 1 to 20,000 ppm"
-pub record Head : Type 0 where
-  pub class : ℕ
-  pub terrain : ℕ
-  pub step : ℕ
-  pub ramp : ℕ
-
 unfoldable pub headFields : Reading Head
 headFields = do
   class ← field 1 4
@@ -116,7 +108,7 @@ crossfallFields = do
   many (λ _. point) count
 
 abbrev pub roadOf : Head → List Element → Profile → List Crossfall → Road
-roadOf h es p cs = record { class = h .class; terrain = h .terrain; step = h .step; ramp = h .ramp; plan = es; start = p .start; tangents = p .tangents; crossfalls = cs }
+roadOf h es p cs = record { head = h; plan = es; start = p .start; tangents = p .tangents; crossfalls = cs }
 
 -- "Fields in order, with ranges"
 unfoldable pub fields : Reading Road

@@ -13,10 +13,7 @@ padded n d xs = xs ++ replicate (n - length xs) d
 -- the alignment that holds a road
 unfoldable pub held : Road → Alignment
 held r = record {
-  class = r .class;
-  terrain = r .terrain;
-  step = r .step;
-  ramp = r .ramp;
+  head = r .head;
   elements = padded 200 blankElement (r .plan);
   «element_count» = length (r .plan);
   start = r .start;
@@ -29,10 +26,7 @@ held r = record {
 -- the road that an alignment holds: the first items of its arrays, as many as its counts say
 abbrev pub roadIn : Alignment → Road
 roadIn a = record {
-  class = a .class;
-  terrain = a .terrain;
-  step = a .step;
-  ramp = a .ramp;
+  head = a .head;
   plan = take (a .«element_count») (a .elements);
   start = a .start;
   tangents = take (a .«tangent_count») (a .tangents);

@@ -4,17 +4,12 @@ pub mod Limits
 pub mod Source
 pub mod Exact
 pub mod Held
-pub mod Lists
-pub mod Tests
 pub mod Listed
 pub mod Rules
 pub mod Line
 pub mod Machine
 pub mod Blade
 pub mod Listing
-pub mod Laws
-pub mod Ranged
-pub mod Positive
 pub mod Compute
 pub mod Starred
 pub mod AtLimits

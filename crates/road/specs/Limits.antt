@@ -5,6 +5,7 @@ use mathlib.Core.Bool.{Bool, not}
 use lib.ListN.{getD}
 use lib.Dec.{eqb}
 use Rattle.road.specs.File.{Road}
+use Rattle.road.specs.declared.Head.{Head}
 
 -- "Speed in km/h by terrain 1, 2, 3", classes 1 to 4
 abbrev pub speeds : List (List ℕ)
@@ -51,8 +52,9 @@ pub record Limits : Type 0 where
   pub lane : ℕ
   pub crossfallMin : ℕ
   pub crossfallMax : ℕ
+  pub crown : ℕ
 
--- "The row of the speed decides every limit below"; refusal 17 has the two crossfalls
+-- "The row of the speed decides every limit below"; refusals 17 and 19 have the crossfalls in ppm
 unfoldable pub limitsIn : List ℕ → Limits
 limitsIn row = record {
   straightMax = getD row 0 0;
@@ -67,11 +69,15 @@ limitsIn row = record {
   lane = getD row 9 0;
   crossfallMin = 25_000;
   crossfallMax = 70_000;
+  crown = 25_000;
 }
 
 unfoldable pub limitsAt : (speed : ℕ) → Limits
 limitsAt v = limitsIn (getD table ((v - 40) / 10) [])
 
 -- the limits of a road: those of its own speed
+unfoldable pub limitsOf : Head → Limits
+limitsOf h = limitsAt (speed (h .class) (h .terrain))
+
 unfoldable pub limits : Road → Limits
-limits r = limitsAt (speed (r .class) (r .terrain))
+limits r = limitsOf (r .head)

@@ -1,8 +1,6 @@
 -- Document 01, "One list, whole": the line of a station.
-use Prim.Native.Nat.{ℕ, zero, suc, _+_, _/_, _%_}
+use Prim.Native.Nat.{ℕ, _+_, _/_, _%_}
 use mathlib.Core.List.{List, [], _∷_, _++_}
-use mathlib.Core.Bool.{Bool, true, false}
-use lib.Dec.{ltb}
 use lib.IntN.{ℤ, pos, negsuc, _+ℤ_}
 use Rattle.road.specs.File.{Road}
 use Rattle.integers.specs.Rounding.{rounded}

@@ -4,7 +4,7 @@ use mathlib.Core.Path.{_≡_}
 use mathlib.Core.List.{List, [], _∷_, _++_, map}
 use lib.IntN.{pos}
 use lib.ListN.{length}
-use Rattle.number.specs.Reading.{Got, got, refused}
+use Rattle.file_numbers.specs.Reading.{Got, got, refused}
 use Rattle.road.specs.Base.{joined}
 use Rattle.road.specs.File.{Road}
 use Rattle.road.specs.Exact.{total}
@@ -12,7 +12,7 @@ use Rattle.road.specs.Listed.{listed}
 use Rattle.road.specs.Rules.{accepted}
 use Rattle.road.specs.Line.{line}
 use Rattle.decimal.specs.Decimal.{spaced}
-use Rattle.road.specs.Machine.{Call, row, next, Answer, refusal, wrote, station, noStation, After, trace, nextAnswer}
+use Rattle.road.specs.Machine.{Call, row, next, refusal, wrote, station, noStation, trace, nextAnswer}
 use Rattle.road.specs.Blade.{Row, rowsOf}
 
 -- "asks for the next station from 0, then for the row there, then from 1 past each station answered, until there is none"; n bounds the rows

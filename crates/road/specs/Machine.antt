@@ -1,11 +1,10 @@
 -- Document 01, the two routines, and "The blade over a whole run": the plain machine.
 use Prim.Native.Nat.{ℕ}
 use mathlib.Core.List.{List, [], _∷_, _++_}
-use mathlib.Core.Bool.{Bool, true, false}
 use mathlib.Core.Option.{Option, none, some}
 use lib.ListN.{length, drop}
 use lib.Dec.{ltb}
-use Rattle.number.specs.Reading.{Got, got, refused}
+use Rattle.file_numbers.specs.Reading.{Got, got, refused}
 use Rattle.road.specs.Base.{if_then_else_}
 use Rattle.road.specs.File.{Road}
 use Rattle.road.specs.Exact.{total}
@@ -37,12 +36,15 @@ ofNext (Next.Station s) = station s
 ofNext Next.Nothing = noStation
 
 -- 20. "The buffer is shorter than 96 bytes (place 0)." 21. "The station is beyond T (place 0)."
-abbrev pub rowOn : (station room : ℕ) → Got Road → Answer
-rowOn s room (refused n p) = refusal n p
-rowOn s room (got r _) =
+abbrev pub rowOf : Road → (station room : ℕ) → Answer
+rowOf r s room =
     if ltb room 96 then refusal 20 0
     else if ltb (total r) s then refusal 21 0
     else wrote (length (line r s))
+
+abbrev pub rowOn : (station room : ℕ) → Got Road → Answer
+rowOn s room (refused n p) = refusal n p
+rowOn s room (got r _) = rowOf r s room
 
 -- the answer to a row call: the refusals in their order, else the line's length
 unfoldable pub rowAnswer : List ℕ → (station room : ℕ) → Answer
@@ -53,12 +55,15 @@ unfoldable pub overwrite : (line buffer : List ℕ) → List ℕ
 overwrite l b = l ++ drop (length l) b
 
 -- "All 21 leave the buffer untouched."
-abbrev pub bufferOn : (station : ℕ) → List ℕ → Got Road → List ℕ
-bufferOn s b (refused _ _) = b
-bufferOn s b (got r _) =
+abbrev pub bufferOf : Road → (station : ℕ) → List ℕ → List ℕ
+bufferOf r s b =
     if ltb (length b) 96 then b
     else if ltb (total r) s then b
     else overwrite (line r s) b
+
+abbrev pub bufferOn : (station : ℕ) → List ℕ → Got Road → List ℕ
+bufferOn s b (refused _ _) = b
+bufferOn s b (got r _) = bufferOf r s b
 
 -- the buffer after a row call
 unfoldable pub rowBuffer : List ℕ → (station : ℕ) → List ℕ → List ℕ
@@ -69,9 +74,12 @@ abbrev pub stationOr : Option ℕ → Answer
 stationOr (some s) = station s
 stationOr none = noStation
 
+abbrev pub nextOf : Road → (station : ℕ) → Answer
+nextOf r s = stationOr (nextListed r s)
+
 abbrev pub nextOn : (station : ℕ) → Got Road → Answer
 nextOn s (refused n p) = refusal n p
-nextOn s (got r _) = stationOr (nextListed r s)
+nextOn s (got r _) = nextOf r s
 
 unfoldable pub nextAnswer : List ℕ → (station : ℕ) → Answer
 nextAnswer f s = nextOn s (accepted f)

@@ -4,8 +4,8 @@ use mathlib.Core.Path.{_≡_, refl}
 use mathlib.Core.List.{List, [], _∷_, _++_}
 use lib.IntN.{pos, negsuc}
 use lib.ListN.{replicate}
-use Rattle.number.specs.Number.{shortest, written}
-use Rattle.number.specs.Reading.{got}
+use Rattle.file_numbers.specs.Number.{shortest, written}
+use Rattle.file_numbers.specs.Reading.{got}
 use Rattle.road.specs.Base.{joined}
 use Rattle.road.specs.File.{Road}
 use Rattle.road.specs.Rules.{accepted}
@@ -31,10 +31,7 @@ file = joined shortest numbers
 
 abbrev pub road : Road
 road = record {
-  class = 4;
-  terrain = 3;
-  step = 50_000;
-  ramp = 5000;
+  head = record { class = 4; terrain = 3; step = 50_000; ramp = 5000 };
   plan = record { kind = 0; length = 200_000; radius = pos 0 } ∷ [];
   start = pos 500_000;
   tangents = record { length = 100_000; grade = pos 20_000; half = 20_000 } ∷ record { length = 100_000; grade = negsuc 19_999; half = 0 } ∷ [];

@@ -2,7 +2,6 @@
 use Prim.Native.Nat.{ℕ, _*_}
 use mathlib.Core.Path.{_≡_, refl}
 use mathlib.Core.List.{List, [], _∷_, map}
-use mathlib.Core.Bool.{true, false}
 use lib.ListN.{getD}
 use lib.Dec.{leb, eqb}
 use Rattle.road.specs.Base.{if_then_else_, countFrom}

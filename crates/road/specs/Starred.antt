@@ -3,11 +3,11 @@ use Prim.Native.Nat.{ℕ, _+_, _*_}
 use mathlib.Core.Path.{_≡_, refl}
 use mathlib.Core.List.{List, [], _∷_, _++_, map}
 use lib.IntN.{ℤ, pos, negsuc}
-use Rattle.number.specs.Reading.{Got, got, refused}
+use Rattle.file_numbers.specs.Reading.{Got, got, refused}
 use Rattle.road.specs.Base.{joined}
-use Rattle.number.specs.Number.{number, shortest}
+use Rattle.file_numbers.specs.Number.{number, shortest}
 use Rattle.road.specs.File.{Road}
-use Rattle.number.specs.Number.{written}
+use Rattle.file_numbers.specs.Number.{written}
 use Rattle.integers.specs.Rounding.{rounded}
 use Rattle.road.specs.Exact.{Side, left, right, edgeDrop, curvature}
 use Rattle.road.specs.Rules.{accepted}

@@ -21,12 +21,17 @@ pub struct Crossfall {
     pub right: i32,
 }
 
-// An alignment is held as three lists with their counts.
-pub struct Alignment {
+// What a file says before its three lists.
+pub struct Head {
     pub class: u32,
     pub terrain: u32,
     pub step: u32,
     pub ramp: u32,
+}
+
+// An alignment is held as three lists with their counts.
+pub struct Alignment {
+    pub head: Head,
     pub elements: [Element; 200],
     pub element_count: usize,
     pub start: i32,
@@ -34,6 +39,47 @@ pub struct Alignment {
     pub tangent_count: usize,
     pub crossfalls: [Crossfall; 200],
     pub crossfall_count: usize,
+}
+
+// An accepted road: its alignment, and what every caller asks of it, the lane width and T.
+pub struct AcceptedRoad {
+    pub alignment: Alignment,
+    pub lane: u32,
+    pub total: u64,
+}
+
+// The rules of an element with those beside it.
+pub enum ElementRule {
+    PlanLength,
+    Kinds,
+    LongStraight,
+    TightArc,
+    ShortArc,
+    ShortClothoid,
+}
+
+// The rules of a tangent with those beside it.
+pub enum TangentRule {
+    SteepTangent,
+    ShortTangent,
+    SharpVertex,
+}
+
+// The rules of a crossfall point with those beside it.
+pub enum PointRule {
+    MisplacedPoint,
+    WrongCrossfall,
+    SteepRamp,
+}
+
+// The rules of a road: those of the items of one list, and three that look further.
+pub enum Rule {
+    Element(ElementRule),
+    OtherTotal,
+    ShortStraight,
+    Tangent(TangentRule),
+    Point(PointRule),
+    Superelevation,
 }
 
 // The answer of a row call: a refusal and its place, or the line's length.

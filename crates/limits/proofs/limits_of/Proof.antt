@@ -1,10 +1,11 @@
 use mathlib.Core.Path.{ap, _∙_}
-use Rattle.road.specs.Limits.{limitsAt}
+use Rattle.road.specs.Limits.{limitsAt, limitsOf}
 use borrow.Author.Needs.{needs}
 use Rattle.limits.proofs.limits_of.Statement.{statement}
 use Rattle.limits.proofs.limits_of.Tie as tie
 
 returns : tie.Need-returns
+unfolding limitsOf
 returns c = c .limits-at .ensures ∙ ap limitsAt (c .before .speed-of .ensures)
 
 pub limits-of-spec : {M : Type 1} → statement M

@@ -1,3 +1,4 @@
+-- The cell of the table; past its classes or its terrains the speed is 0.
 use Prim.Native.Nat.{_-_}
 use Rattle.road.specs.Limits.{speed}
 use Rattle.limits.proofs.Laws.{past-classes, past-terrains}
