@@ -1,0 +1,12 @@
+pub mod Judging
+pub mod PlanOrder
+pub mod PointOrder
+pub mod Ranged
+pub mod Lists
+pub mod Positive
+pub mod Table
+pub mod Refusals
+pub mod Facts
+pub mod Ranges
+pub mod ReadRanges
+pub mod Guaranteed

@@ -1,0 +1,1 @@
+// What acceptance guarantees of a road, and which files are turned away.

@@ -1,0 +1,11 @@
+pub mod Surface
+pub mod Quadratic
+pub mod Chord
+pub mod PrintedNear
+pub mod ChordsAbove
+pub mod Bound
+pub mod Between
+pub mod EdgeRead
+pub mod RunRows
+pub mod Demand
+pub mod Neighbours

@@ -1,0 +1,2 @@
+pub mod All
+pub mod Tests

@@ -1,0 +1,1 @@
+// What holds of every item of a list, and tests joined by "and" and "or".

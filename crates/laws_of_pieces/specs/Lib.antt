@@ -1,0 +1,12 @@
+pub mod Joints
+pub mod Pieces
+pub mod Heights
+pub mod Grades
+pub mod Crossfalls
+pub mod Curvatures
+pub mod Meets
+pub mod Superelevation
+pub mod Sizes
+pub mod Defined
+pub mod OnePiece
+pub mod OneCurve

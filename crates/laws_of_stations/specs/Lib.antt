@@ -1,0 +1,4 @@
+pub mod Next
+pub mod Stations
+pub mod Visits
+pub mod ListingRun

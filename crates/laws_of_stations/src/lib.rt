@@ -1,0 +1,1 @@
+// The listed stations: exactly those of the paper, ascending, and the run that visits them.
