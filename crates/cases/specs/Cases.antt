@@ -4,10 +4,10 @@ use mathlib.Core.List.{List}
 use Prim.Native.Nat.{ℕ, _+_, _≤_, min}
 use native.Mathlib.Omega.{arith}
 use lib.ListN.{length}
-use Rattle.number.specs.Reading.{Got, got, refused}
-use Rattle.number.specs.Number.{number}
-use Rattle.number.specs.Meaning.{meaning}
-use Rattle.number.specs.declared.Number.{Number}
+use Rattle.file_numbers.specs.Reading.{Got, got, refused}
+use Rattle.file_numbers.specs.Number.{number}
+use Rattle.file_numbers.specs.Meaning.{meaning}
+use Rattle.file_numbers.specs.declared.Number.{Number}
 use Rattle.cases.specs.declared.Item.{Item}
 use Rattle.cases.specs.declared.Part.{Part}
 

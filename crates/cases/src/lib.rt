@@ -3,7 +3,7 @@ ghost use mathlib.Core.Path.{_≡_};
 ghost use Prim.Native.Nat.{_≤_};
 ghost use lib.ListN.{length};
 ghost use Rattle.cases.specs.Cases.{itemAt, partAt, within};
-use number::Number;
+use file_numbers::Number;
 
 // A number of the input and the place after it; 0 and the input's end where there is none.
 pub struct Item {

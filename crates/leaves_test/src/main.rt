@@ -1,5 +1,5 @@
 // Runs the leaves on document 01's worked values; the expected output stands in the file `stdout`.
-use number::Number;
+use file_numbers::Number;
 
 // A number on a line of its own.
 fn show(v: i64) {
@@ -41,13 +41,13 @@ fn numbers() {
 
 // Signed values: −25,000 is written as 49,999.
 fn signed_values() {
-    show(wide(number::signed_of(49999)));
-    show(number::written_as(-25000) as i64);
-    show(wide(number::signed_of(4294967295)));
-    show(number::byte_count(0) as i64);
-    show(number::byte_count(127) as i64);
-    show(number::byte_count(128) as i64);
-    show(number::byte_count(4294967295) as i64);
+    show(wide(file_numbers::signed_of(49999)));
+    show(file_numbers::written_as(-25000) as i64);
+    show(wide(file_numbers::signed_of(4294967295)));
+    show(file_numbers::byte_count(0) as i64);
+    show(file_numbers::byte_count(127) as i64);
+    show(file_numbers::byte_count(128) as i64);
+    show(file_numbers::byte_count(4294967295) as i64);
 }
 
 // "Truncating negative drops towards zero: −68.75 becomes −68"; exact halves go up.

@@ -34,15 +34,15 @@ use denote.Triple.Call.{calls-at}
 use denote.Triple.Entry.{onEntry}
 use denote.Triple.Spec.{tripleOf}
 use denote.Triple.Clauses.{ensured, lasts}
-use Rattle.number.specs.Number.{number}
-use Rattle.number.specs.Meaning.{meaning}
+use Rattle.file_numbers.specs.Number.{number}
+use Rattle.file_numbers.specs.Meaning.{meaning}
 use Rattle.reader.specs.Following.{placeAfter}
 use Rattle.reader.specs.declared.Reader.{Reader}
-use Rattle.number.specs.declared.Number.{Number}
+use Rattle.file_numbers.specs.declared.Number.{Number}
 use Rattle.reader.proofs.Reader as T
 use Rattle.reader.proofs.Reader.Laws as T′
-use Rattle.number.proofs.Number as S
-use Rattle.number.proofs.Number.Laws as S′
+use Rattle.file_numbers.proofs.Number as S
+use Rattle.file_numbers.proofs.Number.Laws as S′
 use Rattle.reader.proofs.reader_at as reader-at
 use Rattle.reader.proofs.reader_at.Symbol.{name as #reader·reader-at}
 use Rattle.reader.proofs.next as next

@@ -2,11 +2,11 @@
 use mathlib.Core.Path.{_≡_, refl, sym, ap, _∙_}
 use mathlib.Core.List.{List, [], _∷_}
 use Prim.Native.Nat.{ℕ}
-use Rattle.number.specs.Reading.{Got, got, refused}
-use Rattle.number.specs.Number.{bitsIn, bits, byteCount, groups, sound, number}
-use Rattle.number.specs.Meaning.{meaning}
-use Rattle.number.specs.declared.Number.{Number}
-use Rattle.number.specs.declared.Number.the-variants.{Value, Faulty}
+use Rattle.file_numbers.specs.Reading.{Got, got, refused}
+use Rattle.file_numbers.specs.Number.{bitsIn, bits, byteCount, groups, sound, number}
+use Rattle.file_numbers.specs.Meaning.{meaning}
+use Rattle.file_numbers.specs.declared.Number.{Number}
+use Rattle.file_numbers.specs.declared.Number.the-variants.{Value, Faulty}
 use Rattle.reader.specs.declared.ThreeNumbers.{ThreeNumbers}
 use Rattle.reader.specs.Following.{placeAfter, ThreeRead}
 

@@ -2,10 +2,10 @@
 use Prim.Native.Nat.{ℕ}
 use mathlib.Core.Path.{_≡_}
 use mathlib.Core.List.{List}
-use Rattle.number.specs.Number.{number}
-use Rattle.number.specs.Meaning.{meaning}
-use Rattle.number.specs.declared.Number.{Number}
-use Rattle.number.specs.declared.Number.the-variants.{Value, Faulty}
+use Rattle.file_numbers.specs.Number.{number}
+use Rattle.file_numbers.specs.Meaning.{meaning}
+use Rattle.file_numbers.specs.declared.Number.{Number}
+use Rattle.file_numbers.specs.declared.Number.the-variants.{Value, Faulty}
 use Rattle.reader.specs.declared.ThreeNumbers.{ThreeNumbers}
 
 -- the place after a number that stands at a place; a number at fault is not passed

@@ -1,9 +1,9 @@
 // The reading place: the caller's bytes, held and not copied, and a position in them that moves past each number.
 ghost use mathlib.Core.Path.{_≡_};
-ghost use Rattle.number.specs.Number.{number};
-ghost use Rattle.number.specs.Meaning.{meaning};
+ghost use Rattle.file_numbers.specs.Number.{number};
+ghost use Rattle.file_numbers.specs.Meaning.{meaning};
 ghost use Rattle.reader.specs.Following.{placeAfter, ThreeRead};
-use number::Number;
+use file_numbers::Number;
 
 pub struct Reader<'a> {
     pub src: &'a [u8],
@@ -38,7 +38,7 @@ pub fn reader_at<'a>(src: &'a [u8], at: usize) -> Reader<'a>
 pub fn next<'a>(r: Reader<'a>) -> Number
     ensures { λ n. ⌜ meaning n (r .entry .at) ≡ number (now (r .entry .src)) (r .entry .at) ⌝ }
 {
-    number::read_number(r.src, r.at)
+    file_numbers::read_number(r.src, r.at)
 }
 
 // The reader moved past a number that stands at its reading place.

@@ -1,3 +1,4 @@
+-- The part after a length that was read, cut to the input.
 use mathlib.Core.Path.{_≡_, sym, ap, _∙_, subst}
 use Prim.Native.Nat.{_≤_}
 use borrow.Author.Needs.{needs}

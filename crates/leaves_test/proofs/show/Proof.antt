@@ -1,3 +1,4 @@
+-- A number of 64 bits has at most 20 bytes, so it and the byte after it stand within the line.
 use mathlib.Core.Path.{sym}
 use mathlib.Core.List.{[], _∷_}
 use Prim.Native.Nat.{_≤_}

@@ -31,10 +31,10 @@ use denote.Triple.Spec.{Meets, tripleOf}
 use denote.Triple.Table.{entered, cited}
 use denote.Triple.Walked.{says, Stays, stay-none, stay-none-slice, walkOf, goes-none, goes-none-slice, Walks, ends-at, walked, walk-meets}
 use denote.Exit.{yes}
-use Rattle.number.specs.declared.Number.{Number}
+use Rattle.file_numbers.specs.declared.Number.{Number}
 use Rattle.reader.proofs.Moving.{NumberAt, ReaderAt, Next, token, lent, slice, reader-typed, number-typed, makes-reader, reads-next}
-use Rattle.number.proofs.Number as S
-use Rattle.number.proofs.Number.Laws as S′
+use Rattle.file_numbers.proofs.Number as S
+use Rattle.file_numbers.proofs.Number.Laws as S′
 use Rattle.reader.proofs.reader_at.Symbol as reader-at-def
 use Rattle.reader.proofs.reader_at.Symbol.{name as #reader·reader-at}
 use Rattle.reader.proofs.reader_at.Met as reader-at-thm

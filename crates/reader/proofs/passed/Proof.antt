@@ -41,11 +41,11 @@ use denote.Exit.{yes}
 use denote.Triple.Clauses.{ensured, lasts}
 use Rattle.reader.specs.Following.{placeAfter}
 use Rattle.reader.specs.declared.Reader.{Reader}
-use Rattle.number.specs.declared.Number.{Number}
+use Rattle.file_numbers.specs.declared.Number.{Number}
 use Rattle.reader.proofs.Reader as T
 use Rattle.reader.proofs.Reader.Laws as T′
-use Rattle.number.proofs.Number as S
-use Rattle.number.proofs.Number.Laws as S′
+use Rattle.file_numbers.proofs.Number as S
+use Rattle.file_numbers.proofs.Number.Laws as S′
 use Rattle.reader.proofs.place_after as place-after
 use Rattle.reader.proofs.place_after.Symbol as place-after-def
 use Rattle.reader.proofs.place_after.Symbol.{name as #reader·place-after}

@@ -34,7 +34,7 @@ use denote.Triple.Walked.{says, Stays, stay-none, stay-none-slice, walkOf, goes-
 use denote.Exit.{yes}
 use Rattle.reader.specs.Following.{ThreeRead}
 use Rattle.reader.specs.declared.ThreeNumbers.{ThreeNumbers}
-use Rattle.number.specs.declared.Number.{Number}
+use Rattle.file_numbers.specs.declared.Number.{Number}
 use Rattle.reader.proofs.Moving.{NumberAt, ReaderAt, Next, Passed, token, lent, slice, reader-typed, number-typed, makes-reader, reads-next, moves-past}
 use Rattle.reader.proofs.ThreeNumbers as S
 use Rattle.reader.proofs.ThreeNumbers.Laws as S′
