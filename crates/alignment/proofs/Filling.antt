@@ -1,16 +1,16 @@
 -- A loop that reads items into an array, one a turn: the laws of its invariant, for every type of item. Assumes nothing.
 use mathlib.Core.Path.{_≡_, refl, sym, ap, _∙_}
 use mathlib.Core.List.{List, [], _∷_, _++_, append-assoc, append-nil}
-use Prim.Native.Nat.{ℕ, zero, suc, _+_, _-_, _≤_, _<_}
+use Prim.Native.Nat.{ℕ, suc, _+_, _-_, _≤_, _<_}
 use native.Mathlib.Nat.{sub-zero}
 use native.Mathlib.Numerals.{add-one}
 use native.Mathlib.Omega.{arith}
 use lib.ListN.{length, take, drop, set, replicate, length-set, length-replicate, take-append-drop}
 use lib.Seq.{take-suc-set, drop-set-lt, drop-drop, length-take-le}
-use Rattle.number.specs.Reading.{Got, got, refused, andThen, Reading, _>>=_, give, many}
+use Rattle.file_numbers.specs.Reading.{Got, got, refused, andThen, Reading, _>>=_, give, many}
 use Rattle.road.specs.File.{field}
 use Rattle.road.specs.Held.{padded}
-use Rattle.road.specs.Ranged.{field-within}
+use Rattle.laws_of_acceptance.specs.Ranged.{field-within}
 use Rattle.fields.specs.Ends.{reached, onward, Reads, valueOr, asField}
 use Rattle.alignment.specs.Lists.{listFields, Filled}
 use Rattle.fields.specs.declared.Field.{Field}
@@ -58,11 +58,11 @@ before-more {A} one xs n {s} {from} {next} {a} r =
     inner (got ys l) = ap (λ (zs : List A). got zs l) (sym (append-assoc xs (a ∷ []) ys))
     inner (refused k p) = refl
 
-left : (count i : ℕ) → i < count → count - i ≡ suc (count - (i + 1))
-left count i h = omega arith
+one-fewer : (count i : ℕ) → i < count → count - i ≡ suc (count - (i + 1))
+one-fewer count i h = omega arith
 
 module _ {A : Type 0} {one : ℕ → Reading A} {size : ℕ} {blank : A} {s : List ℕ} {count : ℕ} {start : End} where
-  pub filling-starts : count ≤ size → Filling one size blank s count start (replicate size blank) 0 start
+  filling-starts : count ≤ size → Filling one size blank s count start (replicate size blank) 0 start
   filling-starts h = record {
     within = omega arith;
     room = h;
@@ -80,15 +80,15 @@ module _ {A : Type 0} {one : ℕ → Reading A} {size : ℕ} {blank : A} {s : Li
       rest =
           drop-set-lt (i + 1) items i a (omega arith)
           ∙ sym (drop-drop 1 i items)
-          ∙ ap (drop 1) (f .rest ∙ ap (λ (m : ℕ). replicate m blank) (left size i (omega (arith, f .room))));
+          ∙ ap (drop 1) (f .rest ∙ ap (λ (m : ℕ). replicate m blank) (one-fewer size i (omega (arith, f .room))));
       so-far =
           f .so-far
-          ∙ ap (λ (m : ℕ). onward (before (take i items) (many one m)) s end) (left count i h)
+          ∙ ap (λ (m : ℕ). onward (before (take i items) (many one m)) s end) (one-fewer count i h)
           ∙ before-more one (take i items) (count - (i + 1)) r
           ∙ ap (λ (l : List A). onward (before l (many one (count - (i + 1)))) s next) (sym (take-suc-set items i a (omega (arith, f .long, f .room))) ∙ ap (λ (m : ℕ). take m (set items i a)) (sym (add-one i)));
     }
 
-    pub filling-ends : i ≡ count → reached (take count items) end ≡ onward (many one count) s start
+    filling-ends : i ≡ count → reached (take count items) end ≡ onward (many one count) s start
     unfolding many
     filling-ends e =
         let none : count - i ≡ 0 = omega arith in
@@ -98,7 +98,7 @@ module _ {A : Type 0} {one : ℕ → Reading A} {size : ℕ} {blank : A} {s : Li
         ∙ before-gives (take i items) s end
         ∙ ap (λ (n : ℕ). reached (take n items) end) e)
 
-    pub filling-pads : i ≡ count → items ≡ padded size blank (take count items)
+    filling-pads : i ≡ count → items ≡ padded size blank (take count items)
     unfolding padded
     filling-pads e =
         sym (take-append-drop count items)

@@ -1,2 +1,2 @@
 pub mod Filling
-pub mod Whole
+pub mod WholeFile

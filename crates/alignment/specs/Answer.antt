@@ -2,10 +2,11 @@
 use Prim.Native.Nat.{ℕ}
 use mathlib.Core.List.{[]}
 use lib.IntN.{pos}
-use Rattle.number.specs.Reading.{Got, got, refused, Reading, _>>=_, give}
+use Rattle.file_numbers.specs.Reading.{Got, got, refused, Reading, _>>=_, give}
 use Rattle.road.specs.File.{Road, fields}
 use Rattle.road.specs.Held.{held}
 use Rattle.road.specs.declared.Alignment.{Alignment}
+use Rattle.item_fields.specs.Items.{blankHead}
 use Rattle.fields.specs.declared.End.the-variants.{At, Refused}
 use Rattle.alignment.specs.declared.FileRead.{FileRead}
 
@@ -17,7 +18,7 @@ heldFields = do
 
 -- a road that says nothing
 abbrev pub blankRoad : Road
-blankRoad = record { class = 0; terrain = 0; step = 0; ramp = 0; plan = []; start = pos 0; tangents = []; crossfalls = [] }
+blankRoad = record { head = blankHead; plan = []; start = pos 0; tangents = []; crossfalls = [] }
 
 -- the road and the place after its last byte; beside a refusal stands the blank alignment
 abbrev pub asRead : Got Road → FileRead

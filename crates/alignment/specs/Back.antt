@@ -5,16 +5,16 @@ use Prim.Native.Nat.{ℕ, _-_}
 use native.Mathlib.Omega.{arith}
 use lib.ListN.{length, take, replicate}
 use lib.Seq.{take-append-seam}
-use Rattle.number.specs.Reading.{Got, got, refused}
+use Rattle.file_numbers.specs.Reading.{Got, got, refused}
 use Rattle.road.specs.File.{Road, read}
 use Rattle.road.specs.Held.{padded, held, roadIn, Counted}
-use Rattle.road.specs.Ranged.{read-range}
+use Rattle.laws_of_acceptance.specs.Ranged.{read-range}
 use Rattle.fields.specs.declared.End.the-variants.{At, Refused}
 use Rattle.alignment.specs.Answer.{asRead}
 use Rattle.alignment.specs.declared.FileRead.{FileRead}
 
 -- the list is had back from its array and its length
-pub take-padded : {A : Type 0} (n : ℕ) (d : A) (xs : List A) → take (length xs) (padded n d xs) ≡ xs
+take-padded : {A : Type 0} (n : ℕ) (d : A) (xs : List A) → take (length xs) (padded n d xs) ≡ xs
 unfolding padded
 take-padded n d xs = take-append-seam xs (replicate (n - length xs) d)
 

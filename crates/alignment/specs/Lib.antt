@@ -1,4 +1,3 @@
 pub mod Lists
 pub mod Answer
 pub mod Back
-pub mod Sample

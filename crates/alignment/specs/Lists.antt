@@ -3,7 +3,7 @@ use Prim.Native.Nat.{ℕ}
 use mathlib.Core.Path.{_≡_}
 use mathlib.Core.List.{List}
 use lib.ListN.{length, take}
-use Rattle.number.specs.Reading.{Reading, _>>=_, many}
+use Rattle.file_numbers.specs.Reading.{Reading, _>>=_, many}
 use Rattle.road.specs.File.{field}
 use Rattle.road.specs.Held.{padded}
 use Rattle.fields.specs.Ends.{Reads}

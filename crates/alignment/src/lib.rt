@@ -10,6 +10,7 @@ use fields::End;
 use road::Alignment;
 use road::Crossfall;
 use road::Element;
+use road::Head;
 use road::Tangent;
 
 // What a file says: its alignment, with no item and every number 0 where the file is refused.
@@ -39,17 +40,17 @@ struct Crossfalls {
 fn read_elements(file: &[u8], from: End) -> Elements
     ensures { λ r. ⌜ Filled (listFields 1 200 (λ _. element)) 200 blankElement (now (file .entry)) from (r .items) (r .count) (r .end) ⌝ }
 {
-    let head = fields::read_field(file, from, 1, 200);
-    let count = head.value as usize;
+    let count_read = fields::read_field(file, from, 1, 200);
+    let count = count_read.value as usize;
     let mut items = [Element {
         kind: 0,
         length: 0,
         radius: 0,
     }; 200];
-    let mut end = head.end;
+    let mut end = count_read.end;
     let mut i: usize = 0;
     while i < count {
-        let read = fields::read_element(file, end);
+        let read = item_fields::read_element(file, end);
         let item = read.item;
         items[i] = item;
         end = read.end;
@@ -61,17 +62,17 @@ fn read_elements(file: &[u8], from: End) -> Elements
 fn read_tangents(file: &[u8], from: End) -> Tangents
     ensures { λ r. ⌜ Filled (listFields 1 100 tangent) 100 blankTangent (now (file .entry)) from (r .items) (r .count) (r .end) ⌝ }
 {
-    let head = fields::read_field(file, from, 1, 100);
-    let count = head.value as usize;
+    let count_read = fields::read_field(file, from, 1, 100);
+    let count = count_read.value as usize;
     let mut items = [Tangent {
         length: 0,
         grade: 0,
         half: 0,
     }; 100];
-    let mut end = head.end;
+    let mut end = count_read.end;
     let mut i: usize = 0;
     while i < count {
-        let read = fields::read_tangent(file, end, count - (i + 1));
+        let read = item_fields::read_tangent(file, end, count - (i + 1));
         let item = read.item;
         items[i] = item;
         end = read.end;
@@ -83,17 +84,17 @@ fn read_tangents(file: &[u8], from: End) -> Tangents
 fn read_crossfalls(file: &[u8], from: End) -> Crossfalls
     ensures { λ r. ⌜ Filled (listFields 2 200 (λ _. point)) 200 blankCrossfall (now (file .entry)) from (r .items) (r .count) (r .end) ⌝ }
 {
-    let head = fields::read_field(file, from, 2, 200);
-    let count = head.value as usize;
+    let count_read = fields::read_field(file, from, 2, 200);
+    let count = count_read.value as usize;
     let mut items = [Crossfall {
         station: 0,
         left: 0,
         right: 0,
     }; 200];
-    let mut end = head.end;
+    let mut end = count_read.end;
     let mut i: usize = 0;
     while i < count {
-        let read = fields::read_crossfall(file, end);
+        let read = item_fields::read_crossfall(file, end);
         let item = read.item;
         items[i] = item;
         end = read.end;
@@ -107,7 +108,7 @@ fn read_fields(file: &[u8]) -> FileRead
     ensures { λ r. ⌜ Reads heldFields (now (file .entry)) (End.At 0) (r .alignment) (r .end) ⌝ }
 {
     let first = End::At(0);
-    let head = fields::read_head(file, first);
+    let head = item_fields::read_head(file, first);
     let after_head = head.end;
     let plan = read_elements(file, after_head);
     let after_plan = plan.end;
@@ -116,16 +117,14 @@ fn read_fields(file: &[u8]) -> FileRead
     let profile = read_tangents(file, after_start);
     let after_profile = profile.end;
     let points = read_crossfalls(file, after_profile);
+    let item = head.item;
     let elements = plan.items;
     let tangents = profile.items;
     let crossfalls = points.items;
     let end = points.end;
     FileRead {
         alignment: Alignment {
-            class: head.class,
-            terrain: head.terrain,
-            step: head.step,
-            ramp: head.ramp,
+            head: item,
             elements,
             element_count: plan.count,
             start: start.value,
@@ -143,10 +142,12 @@ pub fn blank() -> Alignment
     ensures { λ r. ⌜ r ≡ held blankRoad ⌝ }
 {
     Alignment {
-        class: 0,
-        terrain: 0,
-        step: 0,
-        ramp: 0,
+        head: Head {
+            class: 0,
+            terrain: 0,
+            step: 0,
+            ramp: 0,
+        },
         elements: [Element {
             kind: 0,
             length: 0,

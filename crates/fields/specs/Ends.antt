@@ -3,20 +3,11 @@ use Prim.Native.Nat.{ℕ}
 use mathlib.Core.Path.{_≡_}
 use mathlib.Core.List.{List}
 use lib.IntN.{ℤ, pos}
-use Rattle.number.specs.Reading.{Got, got, refused, Reading}
-use Rattle.road.specs.File.{Head}
-use Rattle.road.specs.Exact.{blankElement, blankTangent, blankCrossfall}
-use Rattle.road.specs.declared.Element.{Element}
-use Rattle.road.specs.declared.Tangent.{Tangent}
-use Rattle.road.specs.declared.Crossfall.{Crossfall}
+use Rattle.file_numbers.specs.Reading.{Got, got, refused, Reading}
 use Rattle.fields.specs.declared.End.{End}
 use Rattle.fields.specs.declared.End.the-variants.{At, Refused}
 use Rattle.fields.specs.declared.Field.{Field}
 use Rattle.fields.specs.declared.SignedField.{SignedField}
-use Rattle.fields.specs.declared.HeadRead.{HeadRead}
-use Rattle.fields.specs.declared.ElementRead.{ElementRead}
-use Rattle.fields.specs.declared.TangentRead.{TangentRead}
-use Rattle.fields.specs.declared.CrossfallRead.{CrossfallRead}
 
 -- a value that was read, and where reading ended
 abbrev pub reached : {A : Type 0} → A → End → Got A
@@ -47,24 +38,3 @@ asField g = record { value = valueOr 0 g; end = endOf g }
 
 abbrev pub asSigned : Got ℤ → SignedField
 asSigned g = record { value = valueOr (pos 0) g; end = endOf g }
-
-abbrev pub asElement : Got Element → ElementRead
-asElement g = record { item = valueOr blankElement g; end = endOf g }
-
-abbrev pub asTangent : Got Tangent → TangentRead
-asTangent g = record { item = valueOr blankTangent g; end = endOf g }
-
-abbrev pub asCrossfall : Got Crossfall → CrossfallRead
-asCrossfall g = record { item = valueOr blankCrossfall g; end = endOf g }
-
-abbrev pub blankHead : Head
-blankHead = record { class = 0; terrain = 0; step = 0; ramp = 0 }
-
-abbrev pub headWith : Head → End → HeadRead
-headWith h end = record { class = h .class; terrain = h .terrain; step = h .step; ramp = h .ramp; end = end }
-
-abbrev pub asHead : Got Head → HeadRead
-asHead g = headWith (valueOr blankHead g) (endOf g)
-
-abbrev pub headOf : HeadRead → Head
-headOf r = record { class = r .class; terrain = r .terrain; step = r .step; ramp = r .ramp }

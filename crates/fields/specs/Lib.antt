@@ -1,3 +1,4 @@
 pub mod Ends
 pub mod Standing
 pub mod Onward
+pub mod Range

@@ -3,24 +3,15 @@ use mathlib.Core.Path.{_≡_, refl, sym, ap, _∙_}
 use mathlib.Core.List.{List}
 use Prim.Native.Nat.{ℕ}
 use lib.IntN.{ℤ, pos}
-use Rattle.road.specs.File.{Head}
-use Rattle.road.specs.Exact.{blankElement, blankTangent, blankCrossfall}
-use Rattle.road.specs.declared.Element.{Element}
-use Rattle.road.specs.declared.Tangent.{Tangent}
-use Rattle.road.specs.declared.Crossfall.{Crossfall}
-use Rattle.number.specs.Reading.{Got, got, refused, andThen, Reading, _>>=_, give}
-use Rattle.fields.specs.Ends.{reached, onward, Reads, valueOr, endOf, asField, asSigned, asElement, asTangent, asCrossfall, asHead, headOf, blankHead}
+use Rattle.file_numbers.specs.Reading.{Got, got, refused, andThen, Reading, _>>=_, give}
+use Rattle.fields.specs.Ends.{reached, onward, Reads, valueOr, endOf, asField, asSigned}
 use Rattle.fields.specs.declared.Field.{Field}
 use Rattle.fields.specs.declared.SignedField.{SignedField}
-use Rattle.fields.specs.declared.HeadRead.{HeadRead}
-use Rattle.fields.specs.declared.ElementRead.{ElementRead}
-use Rattle.fields.specs.declared.TangentRead.{TangentRead}
-use Rattle.fields.specs.declared.CrossfallRead.{CrossfallRead}
 use Rattle.fields.specs.declared.End.{End}
 use Rattle.fields.specs.declared.End.the-variants.{At, Refused}
 
 -- what was read is had back from its value and its end
-back : {A : Type 0} (blank : A) {m : Reading A} {s : List ℕ} {from : End} → Reads m s from (valueOr blank (onward m s from)) (endOf (onward m s from))
+pub back : {A : Type 0} (blank : A) {m : Reading A} {s : List ℕ} {from : End} → Reads m s from (valueOr blank (onward m s from)) (endOf (onward m s from))
 back {A} blank {m} {s} {from} = record { same = go (onward m s from) }
   where
     go : (g : Got A) → reached (valueOr blank g) (endOf g) ≡ g
@@ -34,18 +25,6 @@ module _ {s : List ℕ} {from : End} where
 
   pub signed-told : {m : Reading ℤ} {r : SignedField} → r ≡ asSigned (onward m s from) → Reads m s from (r .value) (r .end)
   signed-told e = rw e (back (pos 0))
-
-  pub element-told : {m : Reading Element} {r : ElementRead} → r ≡ asElement (onward m s from) → Reads m s from (r .item) (r .end)
-  element-told e = rw e (back blankElement)
-
-  pub tangent-told : {m : Reading Tangent} {r : TangentRead} → r ≡ asTangent (onward m s from) → Reads m s from (r .item) (r .end)
-  tangent-told e = rw e (back blankTangent)
-
-  pub crossfall-told : {m : Reading Crossfall} {r : CrossfallRead} → r ≡ asCrossfall (onward m s from) → Reads m s from (r .item) (r .end)
-  crossfall-told e = rw e (back blankCrossfall)
-
-  pub head-told : {m : Reading Head} {r : HeadRead} → r ≡ asHead (onward m s from) → Reads m s from (headOf r) (r .end)
-  head-told e = rw e (back blankHead)
 
 -- after a value, reading goes on with it
 pub step : {A B : Type 0} {m : Reading A} (f : A → Reading B) {s : List ℕ} {from next : End} {a : A} → Reads m s from a next → onward (_>>=_ m f) s from ≡ onward (f a) s next

@@ -1,4 +1,5 @@
-use Rattle.alignment.proofs.Whole.{too-long, faulty, goes-on, whole}
+-- A file too long, a number at fault, bytes that follow, or the whole file: the four cases of the definition.
+use Rattle.alignment.proofs.WholeFile.{too-long, faulty, goes-on, whole}
 use Rattle.alignment.specs.Answer.{asRead}
 use mathlib.Core.Path.{sym, ap, _∙_}
 use borrow.Author.Needs.{needs}

@@ -1,4 +1,5 @@
-use Rattle.fields.specs.Onward.{element-told}
+-- The count starts the array, each turn fills one place of it, and after as many turns it is filled (`Filling`).
+use Rattle.item_fields.specs.Items.{element-told}
 use Rattle.alignment.proofs.Filling.{Filling, list-starts, filling-turn, list-ends}
 use Rattle.road.specs.Exact.{blankElement}
 use Rattle.road.specs.File.{element}

@@ -1,5 +1,6 @@
-use Rattle.fields.specs.Onward.{head-told, signed-told}
-use Rattle.alignment.proofs.Whole.{held-read}
+use Rattle.fields.specs.Onward.{signed-told}
+use Rattle.item_fields.specs.Items.{head-told}
+use Rattle.alignment.proofs.WholeFile.{held-read}
 use mir.Val.{toZ, ofZ}
 use mir.Syntax.{w32}
 use mathlib.Core.Path.{_≡_}
@@ -9,7 +10,7 @@ use Rattle.alignment.proofs.read_fields.Tie as tie
 
 returns : tie.Need-returns
 returns c =
-    let b = c .before .before .before .before in
+    let b = c .before .before .before .before .before in
     let start = b .before .before .read-signed in
     let same : toZ w32 (ofZ w32 (start .result .value)) ≡ start .result .value = search needs in
     simp same (held-read (head-told (b .before .before .before .before .read-head .ensures)) (b .before .before .before .read-elements .ensures) (signed-told (start .ensures)) (b .before .read-tangents .ensures) (b .read-crossfalls .ensures))

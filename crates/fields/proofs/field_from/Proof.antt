@@ -1,9 +1,10 @@
+-- A number at fault fits nothing; any other is told by where it ends and whether it lies from low to high.
 use mathlib.Core.Path.{ap, _∙_}
 use mathlib.Core.Bool.{_&&_}
 use Prim.Native.Nat.{ℕ}
 use lib.Dec.{leb}
 use Rattle.fields.specs.Ends.{asField}
-use Rattle.fields.proofs.Range.{at-fault}
+use Rattle.fields.specs.Range.{at-fault}
 use borrow.Author.Needs.{needs}
 use Rattle.fields.proofs.field_from.Statement.{statement}
 use Rattle.fields.proofs.field_from.Tie as tie
@@ -17,7 +18,7 @@ returns c =
 returns-2 : tie.Need-returns-2
 returns-2 c =
     let is = c .before .before .before .n .given .1 in
-    rw is (simp (c .before .end-from2 .ensures, is) at (c .field-or-blank2 .ensures))
+    rw is (simp (c .before .end-from2 .ensures) at (c .field-or-blank2 .ensures))
 
 pub field-from-spec : {M : Type 1} → statement M
 field-from-spec = tie.close (tie.spec (λ c. search needs) (λ c. search needs) (λ c _. search needs) (λ c _. search needs) returns (λ c _. search needs) (λ c _. search needs) returns-2)

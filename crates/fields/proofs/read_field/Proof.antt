@@ -5,7 +5,7 @@ use lib.Dec.{leb}
 use denote.Ref.{now}
 use Rattle.road.specs.File.{field}
 use Rattle.fields.specs.Ends.{asField}
-use Rattle.fields.proofs.Range.{in-range}
+use Rattle.fields.specs.Range.{in-range}
 use borrow.Author.Needs.{needs}
 use Rattle.fields.proofs.read_field.Statement.{statement}
 use Rattle.fields.proofs.read_field.Tie as tie

@@ -1,10 +1,10 @@
 use mathlib.Core.Path.{ap, _∙_}
 use lib.IntN.{pos, negℤ}
 use denote.Ref.{now}
-use Rattle.number.specs.Number.{signedOf}
+use Rattle.file_numbers.specs.Number.{signedOf}
 use Rattle.road.specs.File.{signed, between}
 use Rattle.fields.specs.Ends.{asSigned}
-use Rattle.fields.proofs.Range.{in-range}
+use Rattle.fields.specs.Range.{in-range}
 use borrow.Author.Needs.{needs}
 use Rattle.fields.proofs.read_signed.Statement.{statement}
 use Rattle.fields.proofs.read_signed.Tie as tie

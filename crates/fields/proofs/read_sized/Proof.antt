@@ -1,9 +1,9 @@
 use mathlib.Core.Path.{ap, _∙_}
 use denote.Ref.{now}
-use Rattle.number.specs.Number.{signedOf}
+use Rattle.file_numbers.specs.Number.{signedOf}
 use Rattle.road.specs.File.{signed, inSize}
 use Rattle.fields.specs.Ends.{asSigned}
-use Rattle.fields.proofs.Range.{in-range}
+use Rattle.fields.specs.Range.{in-range}
 use borrow.Author.Needs.{needs}
 use Rattle.fields.proofs.read_sized.Statement.{statement}
 use Rattle.fields.proofs.read_sized.Tie as tie

@@ -1,9 +1,9 @@
 use denote.Ref.{now}
 use Rattle.fields.specs.Ends.{asSigned}
 use Rattle.fields.specs.Onward.{gives, answers}
 use borrow.Author.Needs.{needs}
-use Rattle.fields.proofs.read_radius.Statement.{statement}
-use Rattle.fields.proofs.read_radius.Tie as tie
+use Rattle.item_fields.proofs.read_radius.Statement.{statement}
+use Rattle.item_fields.proofs.read_radius.Tie as tie
 
 returns : tie.Need-returns
 returns c = rw (c .before .if1 .taken) (c .read-sized .ensures)

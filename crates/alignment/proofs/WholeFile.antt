@@ -1,20 +1,21 @@
 -- The whole file from its parts, over plain values. Assumes nothing.
-use mathlib.Core.Path.{_≡_, refl, sym, ap, _∙_, subst}
+use mathlib.Core.Path.{_≡_, sym, ap, _∙_}
 use mathlib.Core.List.{List}
 use Prim.Native.Nat.{ℕ, _<_, _≤_}
 use lib.ListN.{length, take}
 use lib.IntN.{ℤ, pos, negsuc}
 use borrow.Author.Tests.{lt-ltb, le-ltb}
-use Rattle.number.specs.Reading.{Got, got, refused, andThen, _>>=_, give, many}
-use Rattle.road.specs.File.{Road, Head, Profile, field, signed, between, element, tangent, point, headFields, planFields, profileFields, crossfallFields, roadOf, fields, ended, read}
-use Rattle.road.specs.Held.{padded, held}
+use Rattle.file_numbers.specs.Reading.{Got, got, refused, andThen, _>>=_, many}
+use Rattle.road.specs.File.{Road, field, signed, between, element, tangent, point, headFields, planFields, profileFields, crossfallFields, roadOf, fields, ended, read}
+use Rattle.road.specs.Held.{held}
 use Rattle.road.specs.Exact.{blankElement, blankTangent, blankCrossfall}
-use Rattle.road.specs.Ranged.{refused-not-got}
+use Rattle.laws_of_acceptance.specs.Ranged.{refused-not-got}
+use Rattle.road.specs.declared.Head.{Head}
 use Rattle.road.specs.declared.Element.{Element}
 use Rattle.road.specs.declared.Tangent.{Tangent}
 use Rattle.road.specs.declared.Crossfall.{Crossfall}
 use Rattle.road.specs.declared.Alignment.{Alignment}
-use Rattle.fields.specs.Ends.{reached, Reads}
+use Rattle.fields.specs.Ends.{Reads}
 use Rattle.alignment.specs.Lists.{listFields, Filled}
 use Rattle.alignment.specs.Answer.{heldFields, asRead}
 use Rattle.fields.specs.declared.End.{End}
@@ -24,10 +25,7 @@ use Rattle.fields.specs.Onward.{chained, gives, grouped}
 -- the alignment of the head, the three lists with their counts, and the start height
 abbrev pub parts : Head → List Element → ℕ → ℤ → List Tangent → ℕ → List Crossfall → ℕ → Alignment
 parts head es e start ts t cs c = record {
-  class = head .class;
-  terrain = head .terrain;
-  step = head .step;
-  ramp = head .ramp;
+  head = head;
   elements = es;
   «element_count» = e;
   start = start;

@@ -1,14 +1,15 @@
+-- The three numbers, each told in its range, are the point (`point-read`).
 use denote.Ref.{now}
 use mathlib.Core.Path.{_≡_}
 use mir.Syntax.{w32}
 use mir.Val.{toZ, ofZ}
 use Rattle.road.specs.File.{point}
-use Rattle.fields.specs.Ends.{asCrossfall}
+use Rattle.item_fields.specs.Items.{asCrossfall}
 use Rattle.fields.specs.Onward.{answers}
-use Rattle.fields.proofs.Range.{point-read}
+use Rattle.item_fields.proofs.Point.{point-read}
 use borrow.Author.Needs.{needs}
-use Rattle.fields.proofs.read_crossfall.Statement.{statement}
-use Rattle.fields.proofs.read_crossfall.Tie as tie
+use Rattle.item_fields.proofs.read_crossfall.Statement.{statement}
+use Rattle.item_fields.proofs.read_crossfall.Tie as tie
 
 returns : tie.Need-returns
 unfolding point

@@ -1,13 +1,14 @@
+-- Length, grade and half length, one reading after the other.
 use denote.Ref.{now}
 use mathlib.Core.Path.{_≡_}
 use mir.Syntax.{w32}
 use mir.Val.{toZ, ofZ}
 use Rattle.road.specs.File.{tangent}
-use Rattle.fields.specs.Ends.{asTangent}
+use Rattle.item_fields.specs.Items.{asTangent}
 use Rattle.fields.specs.Onward.{field-told, signed-told, chained, gives, answers}
 use borrow.Author.Needs.{needs}
-use Rattle.fields.proofs.read_tangent.Statement.{statement}
-use Rattle.fields.proofs.read_tangent.Tie as tie
+use Rattle.item_fields.proofs.read_tangent.Statement.{statement}
+use Rattle.item_fields.proofs.read_tangent.Tie as tie
 
 returns : tie.Need-returns
 unfolding tangent

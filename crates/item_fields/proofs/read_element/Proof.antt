@@ -1,13 +1,14 @@
+-- Kind, length and radius, one reading after the other.
 use denote.Ref.{now}
 use mathlib.Core.Path.{_≡_}
 use mir.Syntax.{w32}
 use mir.Val.{toZ, ofZ}
 use Rattle.road.specs.File.{element}
-use Rattle.fields.specs.Ends.{asElement}
+use Rattle.item_fields.specs.Items.{asElement}
 use Rattle.fields.specs.Onward.{field-told, signed-told, chained, gives, answers}
 use borrow.Author.Needs.{needs}
-use Rattle.fields.proofs.read_element.Statement.{statement}
-use Rattle.fields.proofs.read_element.Tie as tie
+use Rattle.item_fields.proofs.read_element.Statement.{statement}
+use Rattle.item_fields.proofs.read_element.Tie as tie
 
 returns : tie.Need-returns
 unfolding element

@@ -1,10 +1,11 @@
+-- Class, terrain, step and ramp limit, one reading after the other.
 use denote.Ref.{now}
 use Rattle.road.specs.File.{headFields}
-use Rattle.fields.specs.Ends.{asHead}
+use Rattle.item_fields.specs.Items.{asHead}
 use Rattle.fields.specs.Onward.{field-told, chained, gives, answers}
 use borrow.Author.Needs.{needs}
-use Rattle.fields.proofs.read_head.Statement.{statement}
-use Rattle.fields.proofs.read_head.Tie as tie
+use Rattle.item_fields.proofs.read_head.Statement.{statement}
+use Rattle.item_fields.proofs.read_head.Tie as tie
 
 returns : tie.Need-returns
 unfolding headFields
