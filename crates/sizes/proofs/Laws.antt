@@ -10,7 +10,7 @@ use lib.IntN.{ℤ, pos, negsuc, natAbs, negℤ, _+ℤ_, _-ℤ_}
 use lib.Signed.{ltZ, nonNeg, _≤ℤ_, _<ℤ_, yes-nonNeg}
 use mir.Syntax.{Width, w32, w64}
 use mir.Val.{Fits, SFits, toZ, ofZ}
-use mir.Facts.{toZ-ofZ, sfits-widen}
+use mir.Facts.{toZ-ofZ, toZ-pos, sfits-widen}
 use borrow.Author.Tests.{eq-eqb, ne-eqb}
 use Rattle.integers.specs.Bridge.{int, nat, _⊕_, _⊖_, neg, up, dn, eq!, le!, lt!, le?, lt?, abs!, abs?}
 use Rattle.integers.specs.Width.{fits64, lt-taken, lt-left}
@@ -65,6 +65,16 @@ sum-fits {x} {y} f g =
     let b = parts y g in
     let s : natAbs (x +ℤ y) ≤ 4294967296 = abs! (int x ⊕ int y) 4294967296 (omega arith) (omega arith) in
     fits64 (x +ℤ y) (omega arith)
+
+-- a number without a sign, widened
+pub unsigned : {y : ℕ} → y ≤ 4294967295 → toZ w64 y ≡ pos y
+unsigned h = toZ-pos w64 (omega arith)
+
+pub unsigned-fits : {x : ℤ} {y : ℕ} → SFits w32 x → y ≤ 4294967295 → SFits w64 (x +ℤ pos y)
+unsigned-fits {x} {y} f h =
+    let a = parts x f in
+    let s : natAbs (x +ℤ pos y) ≤ 8589934592 = abs! (int x ⊕ nat y) 8589934592 (omega arith) (omega arith) in
+    fits64 (x +ℤ pos y) (omega arith)
 
 pub less-or-same : {x y : ℤ} → x <ℤ y → x ≤ℤ y
 less-or-same {x} {y} h = let o = lt? (int x) (int y) h in le! (int x) (int y) (omega arith)

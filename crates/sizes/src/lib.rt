@@ -12,6 +12,13 @@ pub fn above(x: u32, y: u32) -> u32
     if y < x { x - y } else { 0 }
 }
 
+// One less than n; 0 where n is 0.
+pub fn one_less(n: usize) -> usize
+    ensures { λ r. ⌜ r ≡ n - 1 ⌝ }
+{
+    if n == 0 { 0 } else { n - 1 }
+}
+
 // The size of a difference.
 pub fn apart(x: i32, y: i32) -> u32
     ensures { λ r. ⌜ r ≡ natAbs (x -ℤ y) ⌝ }
@@ -42,6 +49,13 @@ pub fn are_opposite(x: i32, y: i32) -> bool
     ensures { λ r. ⌜ r ≡ eqb (natAbs (x -ℤ negℤ y)) 0 ⌝ }
 {
     x as i64 + y as i64 == 0
+}
+
+// Whether x is negative, or 0, and of a size.
+pub fn is_minus(x: i32, size: u32) -> bool
+    ensures { λ r. ⌜ r ≡ eqb (natAbs (x -ℤ negℤ (pos size))) 0 ⌝ }
+{
+    x as i64 + size as i64 == 0
 }
 
 // Whether y is above x.

@@ -1,3 +1,4 @@
+-- The greater less the less, in either order; both differences fit 64 bits.
 use mir.Facts.{toZ-ofZ}
 use Rattle.integers.specs.Width.{lt-taken, lt-left}
 use Rattle.sizes.proofs.Laws.{widened, widens, apart-swap, less-or-same, Apart}

@@ -1,3 +1,4 @@
+-- Two numbers are opposite where their sum, in 64 bits, is 0.
 use mathlib.Core.Path.{ap, _∙_}
 use Prim.Native.Nat.{ℕ}
 use lib.Dec.{eqb}
