@@ -10,7 +10,7 @@ fn accepted(file: &[u8]) -> u64
     let answer = acceptance::accept(file);
     let outcome = answer.outcome;
     match outcome {
-        Outcome::Accepted(_) => 1,
+        Outcome::Accepted => 1,
         Outcome::Refused(_, _) => 0,
     }
 }
