@@ -1,0 +1,11 @@
+pub mod Tangents
+pub mod Pieces
+pub mod Sides
+pub mod Ends
+pub mod Segments
+pub mod Profiles
+pub mod PieceFacts
+pub mod Found
+pub mod Curvatures
+pub mod Shown
+pub mod Joints

@@ -1,5 +1,0 @@
-pub mod Laws
-pub mod Curve
-pub mod Fields
-pub mod Parts
-pub mod Written

@@ -1,5 +1,0 @@
-pub mod Stretch
-pub mod Sizes
-pub mod Cases
-pub mod Short
-pub mod Line
