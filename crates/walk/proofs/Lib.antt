@@ -1,4 +1,2 @@
 pub mod Going
-pub mod Steps
 pub mod Next
-pub mod Walking

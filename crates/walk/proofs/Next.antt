@@ -6,8 +6,8 @@ use Prim.Native.Nat.{ℕ}
 use Rattle.road.specs.File.{Road}
 use Rattle.road.specs.Listed.{stations, listed, nextListed}
 use Rattle.road.specs.Line.{line}
-use Rattle.theorems.specs.Next.{Least, least, nothing, next-least, listed-has, listed-from}
-use Rattle.walk.specs.Rows.{notBelow, rowsThatFit, chunk}
+use Rattle.laws_of_stations.specs.Next.{Least, least, nothing, next-least, listed-has, listed-from}
+use Rattle.walk.specs.FittingRows.{notBelow, rowsThatFit, chunk}
 use Rattle.walk.specs.NotBelow.{from-none, from-same}
 
 module _ (r : Road) (s : ℕ) where

@@ -9,14 +9,14 @@ use Rattle.road.specs.File.{Road}
 use Rattle.road.specs.Exact.{total}
 use Rattle.road.specs.Listed.{stations, listed}
 use Rattle.road.specs.Line.{line}
-use Rattle.decimal.specs.All.{All}
-use Rattle.decimal.specs.All as all
-use Rattle.theorems.specs.Ascends.{Ascends, ascending-ascends}
-use Rattle.theorems.specs.Next.{listed-from}
-use Rattle.theorems.specs.Stations.{stations-inside}
-use Rattle.theorems.specs.Guaranteed.{Guaranteed}
-use Rattle.theorems.specs.Fits.{line-fits}
-use Rattle.walk.specs.Rows.{notBelow, rowsThatFit, chunk}
+use Rattle.laws_of_lists.specs.All.{All}
+use Rattle.laws_of_lists.specs.All as all
+use Rattle.laws_of_search.specs.Ascends.{Ascends, ascending-ascends}
+use Rattle.laws_of_stations.specs.Next.{listed-from}
+use Rattle.laws_of_stations.specs.Stations.{stations-inside}
+use Rattle.laws_of_acceptance.specs.Guaranteed.{Guaranteed}
+use Rattle.laws_of_lines.specs.Fits.{line-fits}
+use Rattle.walk.specs.FittingRows.{notBelow, rowsThatFit, chunk}
 use Rattle.walk.specs.NotBelow.{from-none, from-member}
 use Rattle.walk.specs.Parts.{fit-room}
 
@@ -40,7 +40,7 @@ module _ {r : Road} (G : Guaranteed r) where
   pub listed-inside : {z : ℕ} → List·Memᴰ z (listed r) → z ≤ total r
   listed-inside {z} m = member-has (stations-inside (G .facts-of) (let s = G .step .low in omega arith)) (listed-from r z m)
 
-  -- beyond T none is left
+  -- beyond T none remains
   pub none-listed : (s : ℕ) → total r < s → notBelow s (listed r) ≡ []
   none-listed s h = from-none s (listed r) (λ z m. let l = listed-inside m in omega arith)
 

@@ -1,6 +1,7 @@
-pub mod Rows
+pub mod FittingRows
 pub mod NotBelow
 pub mod Parts
 pub mod Inside
-pub mod Stretches
-pub mod Whole
+pub mod Multiples
+pub mod Walks
+pub mod AllChunks

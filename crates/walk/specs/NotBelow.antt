@@ -1,13 +1,13 @@
 -- The numbers of a list that are not below s.
 use mathlib.Core.Path.{_≡_, refl, ap, _∙_}
 use mathlib.Core.Logic.{_⊎_, inl, inr}
-use mathlib.Core.List.{List, [], _∷_, _++_, List·Memᴰ, List·Memᴰ·head, List·Memᴰ·tail, List·Memᴰ·cases-cons, List·Memᴰ·not-nil}
+use mathlib.Core.List.{List, [], _∷_, List·Memᴰ, List·Memᴰ·head, List·Memᴰ·tail, List·Memᴰ·cases-cons, List·Memᴰ·not-nil}
 use Prim.Native.Nat.{ℕ, suc, _≤_, _<_}
 use native.Mathlib.Omega.{arith}
 use native.Mathlib.Decide.{decLe}
 use borrow.Author.Tests.{le-leb, lt-leb}
-use Rattle.theorems.specs.Ascends.{Ascends, empty, step, ascends-low}
-use Rattle.walk.specs.Rows.{notBelow}
+use Rattle.laws_of_search.specs.Ascends.{Ascends, empty, step, ascends-low}
+use Rattle.walk.specs.FittingRows.{notBelow}
 
 pub kept : (s x : ℕ) (xs : List ℕ) → s ≤ x → notBelow s (x ∷ xs) ≡ x ∷ notBelow s xs
 unfolding notBelow
@@ -17,9 +17,9 @@ pub dropped : (s x : ℕ) (xs : List ℕ) → x < s → notBelow s (x ∷ xs) �
 unfolding notBelow
 dropped s x xs h = rw (lt-leb s x h)
 
-pub none-left : (s : ℕ) → notBelow s [] ≡ []
+pub none-remains : (s : ℕ) → notBelow s [] ≡ []
 unfolding notBelow
-none-left s = refl
+none-remains s = refl
 
 -- ---- members
 pub record NotBelow (s : ℕ) (l : List ℕ) (z : ℕ) : Type 0 where
@@ -27,18 +27,8 @@ pub record NotBelow (s : ℕ) (l : List ℕ) (z : ℕ) : Type 0 where
   pub from : s ≤ z
 
 module _ (s : ℕ) where
-  pub from-has : (l : List ℕ) {z : ℕ} → List·Memᴰ z l → s ≤ z → List·Memᴰ z (notBelow s l)
-  from-has [] m h = absurd (List·Memᴰ·not-nil m)
-  from-has (x ∷ xs) {z} m h = go (decLe s x) (List·Memᴰ·cases-cons m) (λ n. from-has xs n h)
-    where
-      go : Dec (s ≤ x) → (z ≡ x) ⊎ List·Memᴰ z xs → (List·Memᴰ z xs → List·Memᴰ z (notBelow s xs)) → List·Memᴰ z (notBelow s (x ∷ xs))
-      go (yes k) (inl e) ih = rw (kept s x xs k) (List·Memᴰ·head e)
-      go (yes k) (inr n) ih = rw (kept s x xs k) (List·Memᴰ·tail (ih n))
-      go (no k) (inl e) ih = absurd (omega arith)
-      go (no k) (inr n) ih = rw (dropped s x xs (omega arith)) (ih n)
-
   pub from-member : (l : List ℕ) {z : ℕ} → List·Memᴰ z (notBelow s l) → NotBelow s l z
-  from-member [] m = absurd (List·Memᴰ·not-nil (rw (none-left s) at m))
+  from-member [] m = absurd (List·Memᴰ·not-nil (rw (none-remains s) at m))
   from-member (x ∷ xs) {z} m = go (decLe s x) m (λ n. from-member xs n)
     where
       behind : NotBelow s xs z → NotBelow s (x ∷ xs) z
@@ -54,22 +44,13 @@ module _ (s : ℕ) where
 
   -- none, where all are below
   pub from-none : (l : List ℕ) → ((z : ℕ) → List·Memᴰ z l → z < s) → notBelow s l ≡ []
-  from-none [] h = none-left s
+  from-none [] h = none-remains s
   from-none (x ∷ xs) h = dropped s x xs (h x (List·Memᴰ·head refl)) ∙ from-none xs (λ z m. h z (List·Memᴰ·tail m))
 
   -- all, where none is below
   pub from-all : (l : List ℕ) → ((z : ℕ) → List·Memᴰ z l → s ≤ z) → notBelow s l ≡ l
-  from-all [] h = none-left s
+  from-all [] h = none-remains s
   from-all (x ∷ xs) h = kept s x xs (h x (List·Memᴰ·head refl)) ∙ ap (λ (l : List ℕ). x ∷ l) (from-all xs (λ z m. h z (List·Memᴰ·tail m)))
-
-  pub from-append : (l m : List ℕ) → notBelow s (l ++ m) ≡ notBelow s l ++ notBelow s m
-  unfolding notBelow
-  from-append [] m = refl
-  from-append (x ∷ xs) m = go (decLe s x) (from-append xs m)
-    where
-      go : Dec (s ≤ x) → notBelow s (xs ++ m) ≡ notBelow s xs ++ notBelow s m → notBelow s (x ∷ (xs ++ m)) ≡ notBelow s (x ∷ xs) ++ notBelow s m
-      go (yes k) ih = rw (kept s x xs k, kept s x (xs ++ m) k) (ap (λ (l : List ℕ). x ∷ l) ih)
-      go (no k) ih = rw (dropped s x xs (omega arith), dropped s x (xs ++ m) (omega arith)) ih
 
 -- from t on is the same as from s on, where none is from s to below t
 pub from-same : (s t : ℕ) (l : List ℕ) → s ≤ t → ((z : ℕ) → List·Memᴰ z l → s ≤ z → t ≤ z) → notBelow s l ≡ notBelow t l

@@ -1,15 +1,14 @@
--- The rows that fit, by cases, of two lists one behind another, and where they stop.
-use mathlib.Core.Path.{_≡_, refl, sym, ap, ap₂, _∙_}
+-- The rows that fit, by cases, and where they stop.
+use mathlib.Core.Path.{_≡_, refl, sym, ap, _∙_}
 use mathlib.Core.List.{List, [], _∷_, _++_, append-assoc, List·Memᴰ, List·Memᴰ·head, List·Memᴰ·tail}
 use Prim.Native.Nat.{ℕ, suc, _-_, _≤_, _<_}
 use native.Mathlib.Omega.{arith}
 use native.Mathlib.Decide.{decLe}
-use native.Mathlib.Nat.{sub-zero}
 use borrow.Author.Tests.{le-leb, lt-leb}
 use lib.ListN.{length, length-append}
 use Rattle.road.specs.Base.{joined}
-use Rattle.theorems.specs.Ascends.{Ascends, empty, step, ascends-low}
-use Rattle.walk.specs.Rows.{notBelow, Part, before, nothing, rowsThatFit}
+use Rattle.laws_of_search.specs.Ascends.{Ascends, empty, step, ascends-low}
+use Rattle.walk.specs.FittingRows.{notBelow, Part, before, nothing, rowsThatFit}
 use Rattle.walk.specs.NotBelow.{kept, dropped, from-all}
 
 pub before-before : (t u : List ℕ) (p : Part) → before t (before u p) ≡ before (t ++ u) p
@@ -28,20 +27,6 @@ module _ (line : ℕ → List ℕ) where
   unfolding rowsThatFit
   fit-full room [] h = refl
   fit-full room (s ∷ ss) h = rw (lt-leb 96 room h, rowsThatFit)
-
-  -- two lists one behind another
-  pub fit-append : (room : ℕ) (l m : List ℕ)
-      → (let p = rowsThatFit line room l in rowsThatFit line room (l ++ m) ≡ before (p .text) (rowsThatFit line (room - length (p .text)) (p .remaining ++ m)))
-  fit-append room [] m = rw (fit-none room, sub-zero room)
-  fit-append room (s ∷ ss) m = go (decLe 96 room) (fit-append (room - length (line s)) ss m)
-    where
-      go : Dec (96 ≤ room) → (let p = rowsThatFit line (room - length (line s)) ss in rowsThatFit line (room - length (line s)) (ss ++ m) ≡ before (p .text) (rowsThatFit line (room - length (line s) - length (p .text)) (p .remaining ++ m)))
-          → (let p = rowsThatFit line room (s ∷ ss) in rowsThatFit line room (s ∷ (ss ++ m)) ≡ before (p .text) (rowsThatFit line (room - length (p .text)) (p .remaining ++ m)))
-      go (yes h) ih =
-          let p = rowsThatFit line (room - length (line s)) ss in
-          let e : room - length (line s) - length (p .text) ≡ room - length (line s ++ p .text) = omega (arith, length-append (line s) (p .text)) in
-          rw (fit-row room s ss h, fit-row room s (ss ++ m) h, ← e) (ap (before (line s)) ih ∙ before-before (line s) (p .text) (rowsThatFit line (room - length (line s) - length (p .text)) (p .remaining ++ m)))
-      go (no h) ih = rw (fit-full room (s ∷ ss) (omega arith), sub-zero room)
 
   -- all rows of the list, one behind another
   pub fit-whole : (room : ℕ) (l : List ℕ) → (let p = rowsThatFit line room l in joined line l ≡ p .text ++ joined line (p .remaining))
@@ -63,19 +48,6 @@ module _ (line : ℕ → List ℕ) where
       go : Dec (96 ≤ room) → length (rowsThatFit line (room - length (line s)) ss .text) ≤ room - length (line s) → length (rowsThatFit line room (s ∷ ss) .text) ≤ room
       go (yes h) ih = rw (fit-row room s ss h) (omega (arith, length-append (line s) (rowsThatFit line (room - length (line s)) ss .text), short s (List·Memᴰ·head refl)))
       go (no h) ih = rw (fit-full room (s ∷ ss) (omega arith)) (omega arith)
-
--- lines that agree at the stations
-pub fit-same : (line line′ : ℕ → List ℕ) (room : ℕ) (l : List ℕ) → ((z : ℕ) → List·Memᴰ z l → line z ≡ line′ z) → rowsThatFit line room l ≡ rowsThatFit line′ room l
-unfolding rowsThatFit
-fit-same line line′ room [] same = refl
-fit-same line line′ room (s ∷ ss) same = go (decLe 96 room) (fit-same line line′ (room - length (line s)) ss (λ z m. same z (List·Memᴰ·tail m)))
-  where
-    e : line s ≡ line′ s
-    e = same s (List·Memᴰ·head refl)
-
-    go : Dec (96 ≤ room) → rowsThatFit line (room - length (line s)) ss ≡ rowsThatFit line′ (room - length (line s)) ss → rowsThatFit line room (s ∷ ss) ≡ rowsThatFit line′ room (s ∷ ss)
-    go (yes h) ih = fit-row line room s ss h ∙ ap₂ (λ (t : List ℕ) (p : Part). before t p) e (ih ∙ ap (λ (t : List ℕ). rowsThatFit line′ (room - length t) ss) e) ∙ sym (fit-row line′ room s ss h)
-    go (no h) ih = fit-full line room (s ∷ ss) (omega arith) ∙ sym (fit-full line′ room (s ∷ ss) (omega arith))
 
 -- the first of a list, or e where there is none
 abbrev pub firstOr : ℕ → List ℕ → ℕ

@@ -1,21 +1,18 @@
 // The rows of the listed stations in one walk along the three lists of an accepted alignment.
 ghost use mathlib.Core.Path.{_≡_};
 ghost use mathlib.Core.List.{List·Memᴰ};
-ghost use Prim.Native.Nat.{ℕ, _-_, _≤_, _<_};
+ghost use Prim.Native.Nat.{_≤_, min};
 ghost use lib.ListN.{length};
-ghost use Rattle.decimal.specs.Pairs.{pairTable};
-ghost use Rattle.road.specs.Limits.{limits};
-ghost use Rattle.road.specs.Exact.{total};
 ghost use Rattle.road.specs.Listed.{listed};
 ghost use Rattle.road.specs.Held.{roadIn};
 ghost use Rattle.road.specs.Machine.{overwrite};
-ghost use Rattle.stretch.specs.Stretch.{Sound, lineIn};
-ghost use Rattle.places.specs.Places.{Ready};
-ghost use Rattle.walk.specs.Rows.{rowsThatFit, chunk, answer};
-ghost use Rattle.walk.specs.Stretches.{Stepped, stretchStations, Answers};
-use listed::Found;
-use road::Alignment;
-use stretch::Stretch;
+ghost use Rattle.cursors.specs.Places.{RoadReady, PlaceReached};
+ghost use Rattle.walk.specs.FittingRows.{chunk, answer};
+ghost use Rattle.walk.specs.Walks.{Stands, Entered, moved};
+use cursors::Place;
+use cursors::View;
+use next_listed::Least;
+use road::AcceptedRoad;
 
 // How a list goes on: from a station, or that it is done.
 pub enum Onward {
@@ -29,79 +26,102 @@ pub struct Chunk {
     pub next: Onward,
 }
 
-// Where the rows of a stretch stop: the place after the last byte, and the next station.
-pub struct Stop {
-    pub end: usize,
+// A walk along the listed stations: where it stands, the next multiple of step, and the segment there with its joint.
+pub struct Walk {
     pub station: u64,
+    pub multiple: u64,
+    pub view: View,
 }
 
-// The rows of x and of the multiples of step up to the joint, as long as at least 96 bytes are left.
-fn put_stretch(
-    pairs: &[u8; 200],
-    s: Stretch,
-    x: u64,
-    joint: u64,
-    step: u64,
-    out: &mut [u8],
-    at: usize,
-) -> Stop
-    requires { ⌜ now pairs ≡ pairTable ⌝ ∗ ⌜ ((y : ℕ) → x ≤ y → y < joint → Sound s y) ⌝ ∗ ⌜ Stepped step x joint ⌝ ∗ ⌜ at ≤ length (now out) ⌝ }
-    ensures { λ r. ⌜ Answers (rowsThatFit (lineIn s) (length (now (out .entry)) - at) (stretchStations step x joint)) (now (out .entry)) (now (out .exit)) at joint r ⌝ }
+fn least(v: u64, w: u64) -> u64
+    ensures { λ r. ⌜ r ≡ min v w ⌝ }
 {
-    let mut multiple = (x / step + 1) * step;
-    let mut here = x;
-    let mut end = at;
-    while here < joint {
-        if out.len() - end < 96 {
-            return Stop { end, station: here };
-        }
-        end = stretch::put_line(pairs, s, here, out, end);
-        here = multiple;
-        multiple = multiple + step;
+    if v < w { v } else { w }
+}
+
+// The road's step.
+pub fn step_of(road: AcceptedRoad) -> u64
+    ensures { λ r. ⌜ r ≡ roadIn (road .alignment) .head .step ⌝ }
+{
+    let alignment = road.alignment;
+    let head = alignment.head;
+    head.step as u64
+}
+
+// The walk at a listed station, from a place at or before it.
+fn walk_at(road: AcceptedRoad, place: Place, x: u64) -> Walk
+    requires { ⌜ RoadReady road ⌝ ∗ ⌜ PlaceReached (roadIn (road .alignment)) place x ⌝ ∗ ⌜ List·Memᴰ x (listed (roadIn (road .alignment))) ⌝ }
+    ensures { λ r. ⌜ Entered (roadIn (road .alignment)) x r ⌝ }
+{
+    let step = step_of(road);
+    let alignment = road.alignment;
+    let view = cursors::view_at(alignment, place, x, road.lane);
+    Walk {
+        station: x,
+        multiple: (x / step + 1) * step,
+        view,
     }
-    Stop {
-        end,
-        station: joint,
+}
+
+// The walk begun at a listed station.
+pub fn begin(road: AcceptedRoad, first: u64) -> Walk
+    requires { ⌜ RoadReady road ⌝ ∗ ⌜ List·Memᴰ first (listed (roadIn (road .alignment))) ⌝ }
+    ensures { λ r. ⌜ Entered (roadIn (road .alignment)) first r ⌝ }
+{
+    let alignment = road.alignment;
+    walk_at(road, cursors::start(alignment), first)
+}
+
+// One station on: the next multiple of step, or the joint where that is not beyond it.
+pub fn move_on(w: Walk, step: u64) -> Walk
+    requires { ⌜ w .multiple ≤ 1000000000 ⌝ ∗ ⌜ step ≤ 100000 ⌝ }
+    ensures { λ r. ⌜ r ≡ moved step w ⌝ }
+{
+    let view = w.view;
+    let station = least(w.multiple, view.joint);
+    Walk {
+        station,
+        multiple: w.multiple + step,
+        view,
     }
 }
 
-// T: the last crossfall point stands there.
-fn total_length(a: Alignment) -> u64
-    requires { ⌜ Ready a ⌝ }
-    ensures { λ r. ⌜ r ≡ total (roadIn a) ⌝ }
+// The next segment, for a walk that stands at the joint; past T there is none.
+pub fn next_segment(road: AcceptedRoad, w: Walk) -> Walk
+    requires { ⌜ RoadReady road ⌝ ∗ ⌜ Stands (roadIn (road .alignment)) w ⌝ }
+    ensures { λ r. ⌜ Entered (roadIn (road .alignment)) (w .station) r ⌝ }
 {
-    let last = a.crossfall_count - 1;
-    let p = a.crossfalls[last];
-    p.station as u64
+    if road.total < w.station {
+        return w;
+    }
+    let view = w.view;
+    walk_at(road, view.place, w.station)
 }
 
-// The rows from a listed station on: a view at each joint, and the rows of the stretch from there to the next.
-// Rows of given ascending stations would stand beside this: a view where a station passes the joint, put_line at each.
-fn rows_on(a: Alignment, lane: u32, first: u64, out: &mut [u8]) -> Chunk
-    requires { ⌜ Ready a ⌝ ∗ ⌜ lane ≡ limits (roadIn a) .lane ⌝ ∗ ⌜ List·Memᴰ first (listed (roadIn a)) ⌝ }
-    ensures { λ r. ⌜ r ≡ answer (chunk (roadIn a) first (length (now (out .entry)))) ⌝ }
-    ensures { λ _. ⌜ now (out .exit) ≡ overwrite (chunk (roadIn a) first (length (now (out .entry))) .text) (now (out .entry)) ⌝ }
+// The rows from a listed station on, as long as at least 96 bytes remain.
+fn rows_on(road: AcceptedRoad, first: u64, out: &mut [u8]) -> Chunk
+    requires { ⌜ RoadReady road ⌝ ∗ ⌜ List·Memᴰ first (listed (roadIn (road .alignment))) ⌝ }
+    ensures { λ r. ⌜ r ≡ answer (chunk (roadIn (road .alignment)) first (length (now (out .entry)))) ⌝ }
+    ensures { λ _. ⌜ now (out .exit) ≡ overwrite (chunk (roadIn (road .alignment)) first (length (now (out .entry))) .text) (now (out .entry)) ⌝ }
 {
-    let total = total_length(a);
-    let step = a.step as u64;
+    let step = step_of(road);
     let pairs = decimal::pairs();
-    let mut place = places::start(a);
-    let mut here = first;
+    let mut walk = begin(road, first);
     let mut bytes: usize = 0;
-    while here <= total {
-        if out.len() - bytes < 96 {
-            return Chunk {
-                bytes,
-                next: Onward::From(here),
-            };
+    while walk.station <= road.total {
+        let view = walk.view;
+        let here = view.segment;
+        while walk.station < view.joint {
+            if out.len() - bytes < 96 {
+                return Chunk {
+                    bytes,
+                    next: Onward::From(walk.station),
+                };
+            }
+            bytes = segment::put_line(&pairs, here, walk.station, out, bytes);
+            walk = move_on(walk, step);
         }
-        let v = places::view_at(a, place, here, lane);
-        let p = v.place;
-        let s = v.stretch;
-        let stop = put_stretch(&pairs, s, here, v.joint, step, out, bytes);
-        place = p;
-        here = stop.station;
-        bytes = stop.end;
+        walk = next_segment(road, walk);
     }
     Chunk {
         bytes,
@@ -110,14 +130,14 @@ fn rows_on(a: Alignment, lane: u32, first: u64, out: &mut [u8]) -> Chunk
 }
 
 // The rows of the listed stations that are not below a station, as many whole rows as the buffer has room for.
-pub fn rows_from(a: Alignment, lane: u32, from: u64, out: &mut [u8]) -> Chunk
-    requires { ⌜ Ready a ⌝ ∗ ⌜ lane ≡ limits (roadIn a) .lane ⌝ }
-    ensures { λ r. ⌜ r ≡ answer (chunk (roadIn a) from (length (now (out .entry)))) ⌝ }
-    ensures { λ _. ⌜ now (out .exit) ≡ overwrite (chunk (roadIn a) from (length (now (out .entry))) .text) (now (out .entry)) ⌝ }
+pub fn rows_from(road: AcceptedRoad, from: u64, out: &mut [u8]) -> Chunk
+    requires { ⌜ RoadReady road ⌝ }
+    ensures { λ r. ⌜ r ≡ answer (chunk (roadIn (road .alignment)) from (length (now (out .entry)))) ⌝ }
+    ensures { λ _. ⌜ now (out .exit) ≡ overwrite (chunk (roadIn (road .alignment)) from (length (now (out .entry))) .text) (now (out .entry)) ⌝ }
 {
-    match listed::next_in(a, from) {
-        Found::At(first) => rows_on(a, lane, first, out),
-        Found::Nothing => Chunk {
+    match next_listed::next_in(road, from) {
+        Least::At(first) => rows_on(road, first, out),
+        Least::Nothing => Chunk {
             bytes: 0,
             next: Onward::Done,
         },

@@ -5,7 +5,7 @@ use Prim.Native.Nat.{ℕ, zero, suc, _+_, _-_, _≤_, _<_}
 use native.Mathlib.Omega.{arith}
 use lib.ListN.{length, take, drop}
 use lib.Seq.{take-append-seam}
-use Rattle.number.specs.Reading.{got}
+use Rattle.file_numbers.specs.Reading.{got}
 use Rattle.road.specs.Base.{joined}
 use Rattle.road.specs.File.{Road}
 use Rattle.road.specs.Exact.{total}
@@ -15,10 +15,10 @@ use Rattle.road.specs.Line.{line}
 use Rattle.road.specs.Machine.{overwrite}
 use Rattle.road.specs.Blade.{Row}
 use Rattle.road.specs.Listing.{listingRows, output, listing, listBy, listOf}
-use Rattle.theorems.specs.Ascends.{Ascends, step}
-use Rattle.theorems.specs.Guaranteed.{Guaranteed, guaranteed}
-use Rattle.theorems.specs.ListingRun.{listing-is}
-use Rattle.walk.specs.Rows.{notBelow, rowsThatFit, chunk, onward, answer}
+use Rattle.laws_of_search.specs.Ascends.{Ascends, step}
+use Rattle.laws_of_acceptance.specs.Guaranteed.{Guaranteed, guaranteed}
+use Rattle.laws_of_stations.specs.ListingRun.{listing-is}
+use Rattle.walk.specs.FittingRows.{notBelow, rowsThatFit, chunk, onward, answer}
 use Rattle.walk.specs.NotBelow.{from-member, from-all, from-from, from-ascends}
 use Rattle.walk.specs.Parts.{firstOr, Stopped, fit-none, fit-row, fit-whole, fit-stops}
 use Rattle.walk.specs.Inside.{listed-ascends, listed-inside}
@@ -53,13 +53,13 @@ unfolding overwrite
 bytes-are r s b = take-append-seam (chunk r s (length b) .text) (drop (length (chunk r s (length b) .text)) b)
 
 -- ---- the station to go on from
-pub done-left : (l : List ℕ) → onward l ≡ Done → l ≡ []
-done-left [] e = refl
-done-left (s ∷ l) e = absurd (let z : _≡_ {A = ℕ} 0 1 = cc in omega arith)
+pub done-remaining : (l : List ℕ) → onward l ≡ Done → l ≡ []
+done-remaining [] e = refl
+done-remaining (s ∷ l) e = absurd (let z : _≡_ {A = ℕ} 0 1 = cc in omega arith)
 
-first-left : (e t : ℕ) (l : List ℕ) → onward l ≡ From t → firstOr e l ≡ t
-first-left e t [] q = absurd (let z : _≡_ {A = ℕ} 0 1 = cc in omega arith)
-first-left e t (s ∷ l) q = cc
+first-remaining : (e t : ℕ) (l : List ℕ) → onward l ≡ From t → firstOr e l ≡ t
+first-remaining e t [] q = absurd (let z : _≡_ {A = ℕ} 0 1 = cc in omega arith)
+first-remaining e t (s ∷ l) q = cc
 
 first-among : (t : ℕ) (l : List ℕ) → onward l ≡ From t → List·Memᴰ t l
 first-among t [] q = absurd (let z : _≡_ {A = ℕ} 0 1 = cc in omega arith)
@@ -76,17 +76,17 @@ module _ {r : Road} (G : Guaranteed r) where
 
   module _ (s room t : ℕ) (e : onward (chunk r s room .remaining) ≡ From t) where
     at-station : firstOr (bound s) (chunk r s room .remaining) ≡ t
-    at-station = first-left (bound s) t (chunk r s room .remaining) e
+    at-station = first-remaining (bound s) t (chunk r s room .remaining) e
 
     -- the stations left are those from it on
-    pub left-from : chunk r s room .remaining ≡ notBelow t (listed r)
-    left-from =
+    pub remaining-from : chunk r s room .remaining ≡ notBelow t (listed r)
+    remaining-from =
         let n = at-station in
         stops s room .rest ∙ ap (λ (x : ℕ). notBelow x (notBelow s (listed r))) n ∙ from-from s t (listed r) (omega (arith, stops s room .low))
 
     -- it is listed
     pub onward-listed : List·Memᴰ t (listed r)
-    onward-listed = from-member t (listed r) (subst (List·Memᴰ t) left-from (first-among t (chunk r s room .remaining) e)) .among
+    onward-listed = from-member t (listed r) (subst (List·Memᴰ t) remaining-from (first-among t (chunk r s room .remaining) e)) .among
 
     -- with room for a row it is beyond s
     pub onward-beyond : 96 ≤ room → s < t
@@ -97,7 +97,7 @@ module _ {r : Road} (G : Guaranteed r) where
         go [] a below q = absurd (List·Memᴰ·not-nil (first-among t [] (rw (fit-none (line r) room) at q)))
         go (x ∷ xs) (step b a) below q =
             let p = rowsThatFit (line r) (room - length (line r x)) xs in
-            let n : firstOr (bound s) (p .remaining) ≡ t = first-left (bound s) t (p .remaining) (rw (fit-row (line r) room x xs h) at q) in
+            let n : firstOr (bound s) (p .remaining) ≡ t = first-remaining (bound s) t (p .remaining) (rw (fit-row (line r) room x xs h) at q) in
             omega (arith, n, fit-stops (line r) (bound s) (room - length (line r x)) a (below x (List·Memᴰ·head refl)) (λ z m. below z (List·Memᴰ·tail m)) .low)
 
   -- ---- with 96 bytes or more for each call there are such calls: each goes on beyond its own station, up to T
@@ -125,14 +125,14 @@ module _ {r : Road} (G : Guaranteed r) where
   calls-lines {s} (last {c = c} b e d) =
       let room = length b in
       let l = notBelow s (listed r) in
-      let n : chunk r s room .remaining ≡ [] = done-left (chunk r s room .remaining) (ap (λ (c : Seen). c .answer .next) (sym e) ∙ d) in
+      let n : chunk r s room .remaining ≡ [] = done-remaining (chunk r s room .remaining) (ap (λ (c : Seen). c .answer .next) (sym e) ∙ d) in
       ap (λ (t : List ℕ). t ++ []) (ap bytesOf e ∙ bytes-are r s b)
       ∙ ap (λ (m : List ℕ). chunk r s room .text ++ joined (line r) m) (sym n)
       ∙ sym (fit-whole (line r) room l)
   calls-lines {s} (more {t = t} {c = c} {cs = cs} b e d k) =
       let room = length b in
       let l = notBelow s (listed r) in
-      let n : chunk r s room .remaining ≡ notBelow t (listed r) = left-from s room t (ap (λ (c : Seen). c .answer .next) (sym e) ∙ d) in
+      let n : chunk r s room .remaining ≡ notBelow t (listed r) = remaining-from s room t (ap (λ (c : Seen). c .answer .next) (sym e) ∙ d) in
       ap₂ (λ (t u : List ℕ). t ++ u) (ap bytesOf e ∙ bytes-are r s b) (calls-lines k)
       ∙ ap (λ (m : List ℕ). chunk r s room .text ++ joined (line r) m) (sym n)
       ∙ sym (fit-whole (line r) room l)

@@ -29,7 +29,7 @@ before t p = record { text = t ++ p .text; remaining = p .remaining }
 abbrev pub nothing : List ℕ → Part
 nothing stations = record { text = []; remaining = stations }
 
--- the rows of stations, one behind another, as long as at least 96 bytes are left
+-- the rows of stations, one behind another, as long as at least 96 bytes remain
 unfoldable pub rowsThatFit : (ℕ → List ℕ) → (room : ℕ) → List ℕ → Part
 rowsThatFit line room [] = nothing []
 rowsThatFit line room (s ∷ ss) =
