@@ -54,8 +54,8 @@ fn read_input(buffer: &mut [u8]) -> Input
 
 // The list of a file, or its refusal; a word on standard error where it was not written whole.
 fn list(file: &[u8]) {
-    let handed = printing::print_list(file);
-    if !printing::is_written(handed) {
+    let handed = list_output::print_list(file);
+    if !list_output::is_written(handed) {
         io::write_all(STDERR_FILENO, b"list: the list was not written whole\n");
     }
 }

@@ -6,7 +6,7 @@ fn one_list(input: &[u8], at: usize) -> usize {
     let from = part.from;
     let end = part.end;
     let file = &input[from..end];
-    printing::print_list(file);
+    list_output::print_list(file);
     end
 }
 

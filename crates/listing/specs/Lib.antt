@@ -1,2 +1,2 @@
 pub mod Chunks
-pub mod Whole
+pub mod RestOfList

@@ -10,7 +10,7 @@ use denote.Ref.{RefT, now}
 use borrow.Fn.Kinds.{Dens, endedOf}
 use denote.Triple.Clauses.{AtExit}
 use contract.Lifetimes.{Lfts}
-use Rattle.number.specs.Reading.{Got, got, refused}
+use Rattle.file_numbers.specs.Reading.{Got, got, refused}
 use Rattle.road.specs.Base.{if_then_else_}
 use Rattle.road.specs.File.{Road}
 use Rattle.road.specs.Exact.{total}
@@ -28,9 +28,9 @@ use Rattle.stationing.proofs.row.Reads as row-says
 use Rattle.stationing.proofs.row.Kinds as row-kinds
 use Rattle.stationing.proofs.next_station.Reads as next-says
 use Rattle.stationing.proofs.next_station.Kinds as next-kinds
-use Rattle.runs.specs.Rows.{BladeSeen}
+use Rattle.runs.specs.RecordedRows.{BladeSeen}
 use Rattle.runs.specs.Listing.{ListingRows}
-use Rattle.runs.proofs.Rows.{blade-seen}
+use Rattle.runs.proofs.RowsBack.{blade-seen}
 use Rattle.runs.proofs.Refused.{same-refusal}
 use Rattle.runs.proofs.Listing.{listing-seen}
 
@@ -42,7 +42,7 @@ pub record RowMet (f : List ℕ) (s : ℕ) (b : List ℕ) (r : RowAnswer) (b′ 
   pub file : now (args .0) ≡ f
   pub station : args .1 .0 ≡ s
   pub line : now (args .1 .1 .0) ≡ b
-  pub left : now (ends .1 .1 .0) ≡ b′
+  pub final : now (ends .1 .1 .0) ≡ b′
   pub ensures : row-says.Learnt κs args r ends
 
 row-met : {f : List ℕ} {s : ℕ} {b : List ℕ} {r : RowAnswer} {b′ : List ℕ} → RowMet f s b r b′ → (ofRow r ≡ rowAnswer f s (length b)) × (b′ ≡ rowBuffer f s b)
@@ -103,7 +103,7 @@ row-made f s b r e = record {
   file = refl;
   station = refl;
   line = refl;
-  left = refl;
+  final = refl;
   ensures = (e, refl);
 }
 

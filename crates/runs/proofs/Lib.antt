@@ -3,7 +3,7 @@ pub mod Sizes
 pub mod Lengths
 pub mod Seen
 pub mod Progress
-pub mod Rows
+pub mod RowsBack
 pub mod Refused
 pub mod Listing
 pub mod AnyRun

@@ -5,7 +5,7 @@ use mathlib.Core.Logic.{_⊎_, inl, inr}
 use Prim.Native.Nat.{ℕ, suc, _≤_}
 use native.Mathlib.Omega.{arith}
 use lib.ListN.{length}
-use Rattle.number.specs.Reading.{got}
+use Rattle.file_numbers.specs.Reading.{got}
 use Rattle.road.specs.File.{Road}
 use Rattle.road.specs.Exact.{total}
 use Rattle.road.specs.Listed.{stations, listed}
@@ -13,16 +13,16 @@ use Rattle.road.specs.Rules.{accepted}
 use Rattle.road.specs.Machine.{After, trace}
 use Rattle.road.specs.Blade.{rowsOf}
 use Rattle.road.specs.Listing.{listingCalls, listingRows}
-use Rattle.road.specs.Positive.{accepted-road}
-use Rattle.decimal.specs.All.{All}
-use Rattle.decimal.specs.All as all
-use Rattle.theorems.specs.Facts.{facts}
-use Rattle.theorems.specs.Stations.{stations-inside}
-use Rattle.theorems.specs.Ascends.{Ascends, empty, ascending-ascends, ascending-all}
-use Rattle.theorems.specs.Ascends as A
-use Rattle.theorems.specs.Next.{listed-has}
-use Rattle.theorems.specs.ListingRun.{listing-run}
-use Rattle.theorems.specs.Visits.{listing-rows}
+use Rattle.laws_of_acceptance.specs.Positive.{accepted-road}
+use Rattle.laws_of_lists.specs.All.{All}
+use Rattle.laws_of_lists.specs.All as all
+use Rattle.laws_of_acceptance.specs.Facts.{facts}
+use Rattle.laws_of_stations.specs.Stations.{stations-inside}
+use Rattle.laws_of_search.specs.Ascends.{Ascends, empty, ascending-ascends, ascending-all}
+use Rattle.laws_of_search.specs.Ascends as A
+use Rattle.laws_of_stations.specs.Next.{listed-has}
+use Rattle.laws_of_stations.specs.ListingRun.{listing-run}
+use Rattle.laws_of_stations.specs.Visits.{listing-rows}
 use Rattle.runs.specs.Calls.{runOf}
 use Rattle.runs.specs.Recorded.{Recorded}
 use Rattle.runs.specs.Listing.{ListingRows, ListingRecorded}
@@ -68,7 +68,7 @@ greatest-last t {xs = x ∷ xs} (A.step l a) (all.more w v) m = go (List·Memᴰ
 -- ---- the listing's run
 
 -- of the machine
-pub listing-machine : (f b : List ℕ) (r : Road) (end : ℕ) → accepted f ≡ got r end → 96 ≤ length b → ListingRows r (listingRows f b)
+listing-machine : (f b : List ℕ) (r : Road) (end : ℕ) → accepted f ≡ got r end → 96 ≤ length b → ListingRows r (listingRows f b)
 unfolding listed stations
 listing-machine f b r end e room =
     let a = accepted-road f r end e in

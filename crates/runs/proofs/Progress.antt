@@ -2,36 +2,36 @@
 -- `start`, `turn` and `done` are the loop of `runs::run_sized`, said of lists alone.
 use mathlib.Core.Path.{_≡_, refl, sym, ap, _∙_}
 use mathlib.Core.List.{List, [], _∷_, _++_, map, append-assoc, append-nil}
-use Prim.Native.Nat.{ℕ, zero, suc, _+_, _-_, _*_, _<_, _≤_}
+use Prim.Native.Nat.{ℕ, suc, _+_, _-_, _*_, _<_, _≤_}
 use native.Mathlib.Omega.{arith}
 use native.Mathlib.Nat.{suc-mul, zero-mul}
 use native.Mathlib.Numerals.{add-one}
 use lib.ListN.{length, take, drop, getD, set, length-set, length-append, length-drop, drop-of-length-le}
 use lib.Seq.{take-suc-set, append-snoc, drop-cons, take-at, take-all, length-take-le}
-use Rattle.road.specs.Machine.{Call, After, step, trace}
-use Rattle.theorems.specs.Buffer.{step-length}
+use Rattle.road.specs.Machine.{After, step, trace}
+use Rattle.laws_of_lines.specs.Buffer.{step-length}
 use Rattle.runs.specs.Answers.{code, first, second}
-use Rattle.runs.specs.Calls.{callOf, callsOf, runOf}
+use Rattle.runs.specs.Calls.{callOf, runOf}
 use Rattle.runs.specs.Recorded.{Recorded, CallRecorded, Room, Lent, lastBuffer, framesOf}
 use Rattle.runs.proofs.Seen.{seen-run}
 
 -- ---- one of the three numbers
 
--- the numbers of the first k calls, and those of the calls that are left
-pub record Column (g : After → ℕ) (count k : ℕ) (xs : List ℕ) (left all : List After) : Type 0 where
+-- the numbers of the first k calls, and those of the calls that remain
+pub record Column (g : After → ℕ) (count k : ℕ) (xs : List ℕ) (remaining all : List After) : Type 0 where
   pub size : length xs ≡ count
-  pub noted : take k xs ++ map g left ≡ map g all
+  pub noted : take k xs ++ map g remaining ≡ map g all
 
 column-start : {count : ℕ} (g : After → ℕ) (xs : List ℕ) (all : List After) → length xs ≡ count → Column g count 0 xs all all
 column-start g xs all e = record { size = e; noted = refl }
 
-column-turn : {g : After → ℕ} {count k : ℕ} {xs : List ℕ} {t : After} {left all : List After} {xs′ : List ℕ}
-    → Column g count k xs (t ∷ left) all → k < count → xs′ ≡ set xs k (g t) → Column g count (k + 1) xs′ left all
-column-turn {g} {count} {k} {xs} {t} {left} {all} {xs′} c h e =
+column-turn : {g : After → ℕ} {count k : ℕ} {xs : List ℕ} {t : After} {remaining all : List After} {xs′ : List ℕ}
+    → Column g count k xs (t ∷ remaining) all → k < count → xs′ ≡ set xs k (g t) → Column g count (k + 1) xs′ remaining all
+column-turn {g} {count} {k} {xs} {t} {remaining} {all} {xs′} c h e =
     let l : k < length xs = omega arith in
     record {
       size = ap length e ∙ length-set xs k (g t) ∙ c .size;
-      noted = rw (e, add-one k, take-suc-set xs k (g t) l) (append-snoc (take k xs) (g t) (map g left)) ∙ c .noted;
+      noted = rw (e, add-one k, take-suc-set xs k (g t) l) (append-snoc (take k xs) (g t) (map g remaining)) ∙ c .noted;
     }
 
 column-done : {g : After → ℕ} {count k : ℕ} {xs : List ℕ} {all : List After} → Column g count k xs [] all → count ≤ k → xs ≡ map g all
@@ -58,7 +58,7 @@ unroll : (f b ks ss : List ℕ) (k : ℕ) → k < length ks → k < length ss
 unfolding runOf trace
 unroll f b ks ss k h j = rw (add-one k, drop-cons ks k 0 h, drop-cons ss k 0 j)
 
--- no call is left
+-- no call remains
 over : (f b ks ss : List ℕ) (k : ℕ) → length ks ≤ k → runOf f b (drop k ks) ss ≡ []
 unfolding runOf trace
 over f b ks ss k h = rw (drop-of-length-le ks h)
@@ -75,7 +75,7 @@ framed-length : (fs b : List ℕ) (at : ℕ) → at + length b ≤ length fs →
 framed-length fs b at h =
     omega (arith, length-append (take at fs ++ b) (drop (at + length b) fs), length-append (take at fs) b, length-take-le at fs (omega arith), length-drop (at + length b) fs)
 
--- what is left of the room
+-- the room that remains
 less : (n k l : ℕ) → k < n → (n - k) * l ≡ l + (n - (k + 1)) * l
 less n k l h =
     let e : n - k ≡ suc (n - (k + 1)) = omega arith in
@@ -114,8 +114,8 @@ module _ {f b₀ ks ss : List ℕ} {k at : ℕ} {b cs ns ps fs : List ℕ} (p : 
       → Progress f b₀ ks ss (k + 1) (at + length b′) b′ cs′ ns′ ps′ fs′
   turn {b′} {cs′} {ns′} {ps′} {fs′} h r =
       let t : After = step f b (callOf (getD ks k 0) (getD ss k 0)) in
-      let left : List After = runOf f b′ (drop (k + 1) ks) (drop (k + 1) ss) in
-      let u : runOf f b (drop k ks) (drop k ss) ≡ t ∷ left = rw (r .buffer) (unroll f b ks ss k h (omega (arith, p .even))) in
+      let remaining : List After = runOf f b′ (drop (k + 1) ks) (drop (k + 1) ss) in
+      let u : runOf f b (drop k ks) (drop k ss) ≡ t ∷ remaining = rw (r .buffer) (unroll f b ks ss k h (omega (arith, p .even))) in
       let same : length b′ ≡ length b = ap length (r .buffer) ∙ step-length f b (callOf (getD ks k 0) (getD ss k 0)) in
       let gone = less (length ks) k (length b₀) h in
       let room : at + length b′ ≤ length fs = omega (arith, p .size, p .room) in
@@ -130,12 +130,12 @@ module _ {f b₀ ks ss : List ℕ} {k at : ℕ} {b cs ns ps fs : List ℕ} (p : 
         frames-size = long ∙ p .frames-size;
         room = omega (arith, p .size, p .room);
         framed =
-            ap (λ (l : List ℕ). take (at + length b′) l ++ framesOf left) (r .frames)
-            ∙ framed-more fs b′ at (framesOf left) (omega arith)
-            ∙ ap (λ (l : List ℕ). take at fs ++ (l ++ framesOf left)) (r .buffer)
+            ap (λ (l : List ℕ). take (at + length b′) l ++ framesOf remaining) (r .frames)
+            ∙ framed-more fs b′ at (framesOf remaining) (omega arith)
+            ∙ ap (λ (l : List ℕ). take at fs ++ (l ++ framesOf remaining)) (r .buffer)
             ∙ ap (λ (ts : List After). take at fs ++ framesOf ts) (sym u)
             ∙ p .framed;
-        buffer = ap (λ (l : List ℕ). lastBuffer l left) (r .buffer) ∙ ap (lastBuffer b) (sym u) ∙ p .buffer;
+        buffer = ap (λ (l : List ℕ). lastBuffer l remaining) (r .buffer) ∙ ap (lastBuffer b) (sym u) ∙ p .buffer;
       }
 
   pub done : length ks ≤ k → Recorded f b₀ ks ss b cs ns ps fs

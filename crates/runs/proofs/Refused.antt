@@ -1,18 +1,17 @@
 -- A file that is turned away gets the same refusal at every call, the buffer stays as it was, and there is no row.
-use mathlib.Core.Path.{_≡_, refl, sym, ap, ap₂, _∙_}
+use mathlib.Core.Path.{_≡_, refl, ap, _∙_}
 use mathlib.Core.List.{List, [], _∷_, map}
-use Prim.Native.Nat.{ℕ, zero, suc, _<_}
+use Prim.Native.Nat.{ℕ, zero, suc}
 use native.Mathlib.Omega.{arith}
 use lib.ListN.{length, getD, replicate}
-use Rattle.number.specs.Reading.{Got, refused}
+use Rattle.file_numbers.specs.Reading.{Got, refused}
 use Rattle.road.specs.File.{Road}
 use Rattle.road.specs.Rules.{accepted}
-use Rattle.road.specs.Machine.{Call, row, next, Answer, refusal, After, rowOn, bufferOn, nextOn, rowAnswer, rowBuffer, nextAnswer, step, trace}
-use Rattle.road.specs.Blade.{Row, rowsOf}
+use Rattle.road.specs.Machine.{Call, row, next, refusal, After, rowOn, bufferOn, nextOn, rowAnswer, rowBuffer, nextAnswer, step, trace}
 use Rattle.runs.specs.Answers.{code}
 use Rattle.runs.specs.Calls.{callsOf, runOf}
 use Rattle.runs.specs.Recorded.{Recorded, lastBuffer}
-use Rattle.runs.specs.Rows.{IsRow, TurnedAway}
+use Rattle.runs.specs.RecordedRows.{TurnedAway}
 use Rattle.runs.proofs.Lengths.{calls-length}
 
 -- what is seen after each call
@@ -20,12 +19,6 @@ abbrev away : (n p : ℕ) (b : List ℕ) → After
 away n p b = record { answer = refusal n p; buffer = b }
 
 -- none of it is a row
-no-rows : (n p : ℕ) (b : List ℕ) (calls : List Call) → rowsOf calls (replicate (length calls) (away n p b)) ≡ []
-unfolding rowsOf
-no-rows n p b [] = refl
-no-rows n p b (row s ∷ calls) = no-rows n p b calls
-no-rows n p b (next s ∷ calls) = no-rows n p b calls
-
 no-codes : (n p : ℕ) (b : List ℕ) (k i : ℕ) → getD (map code (replicate k (away n p b))) i 0 ≡ 0
 no-codes n p b zero i = refl
 no-codes n p b (suc k) zero = refl
@@ -48,9 +41,6 @@ module _ (f : List ℕ) {n p : ℕ} (e : accepted f ≡ refused n p) where
   same-refusal b (c ∷ calls) =
       ap (λ (t : After). t ∷ trace f (t .buffer) calls) (step-away b c)
       ∙ ap (λ (ts : List After). away n p b ∷ ts) (same-refusal b calls)
-
-  pub no-row : (b : List ℕ) (calls : List Call) → rowsOf calls (trace f b calls) ≡ []
-  no-row b calls = ap (rowsOf calls) (same-refusal b calls) ∙ no-rows n p b calls
 
   module _ {b ks ss b′ cs ns ps fs : List ℕ} (r : Recorded f b ks ss b′ cs ns ps fs) (even : length ss ≡ length ks) where
     run-away : runOf f b ks ss ≡ replicate (length ks) (away n p b)

@@ -10,12 +10,12 @@ use Rattle.road.specs.Exact.{Side, edge}
 use Rattle.road.specs.Blade.{Row, Neighbouring, printedHeight, blade, bound}
 use Rattle.road.specs.Sample.{file, road, sample-accepted}
 use Rattle.road.specs.Compute.{computed}
-use Rattle.theorems.specs.Neighbours.{listed-neighbouring}
+use Rattle.laws_of_blade.specs.Neighbours.{listed-neighbouring}
 use Rattle.runs.specs.Answers.{code, first}
 use Rattle.runs.specs.Calls.{runOf}
 use Rattle.runs.specs.Recorded.{Recorded, framesOf}
-use Rattle.runs.specs.Rows.{IsRow, recordedRow, Close, BladeRecorded}
-use Rattle.runs.proofs.Rows.{blade-recorded}
+use Rattle.runs.specs.RecordedRows.{IsRow, recordedRow, Close, BladeRecorded}
+use Rattle.runs.proofs.RowsBack.{blade-recorded}
 use Rattle.runs.proofs.Witnesses.{RunRecord, run-recorded, ListingRecord, listing-met}
 
 abbrev kinds : List ℕ

@@ -1,12 +1,12 @@
 -- What is read back from a record of the machine's run is that run.
-use mathlib.Core.Path.{_≡_, refl, sym, ap, _∙_}
-use mathlib.Core.List.{List, [], _∷_, _++_, map}
+use mathlib.Core.Path.{_≡_, refl, ap, _∙_}
+use mathlib.Core.List.{List, [], _∷_, map}
 use Prim.Native.Nat.{ℕ}
-use lib.ListN.{length, take, drop}
+use lib.ListN.{length}
 use lib.Seq.{take-at, drop-at}
-use Rattle.road.specs.Machine.{Call, Answer, After, step, trace}
-use Rattle.theorems.specs.Buffer.{step-length}
-use Rattle.runs.specs.Answers.{code, first, second, answerOf, answer-back}
+use Rattle.road.specs.Machine.{Call, After, step, trace}
+use Rattle.laws_of_lines.specs.Buffer.{step-length}
+use Rattle.runs.specs.Answers.{code, first, second, answer-back}
 use Rattle.runs.specs.Calls.{callsOf, runOf}
 use Rattle.runs.specs.Recorded.{framesOf, seenIn}
 

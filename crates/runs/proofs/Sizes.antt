@@ -7,7 +7,7 @@ use native.Mathlib.Nat.{mul-mod-left, mul-div-left, div-add-mod'}
 use lib.Dec.{eqb}
 use borrow.Author.Tests.{eq-eqb, ne-eqb, eqb-true, eqb-false}
 use Rattle.runs.specs.Recorded.{sized, Lent}
-use Rattle.road.specs.Tests.{and-yes}
+use Rattle.laws_of_lists.specs.Tests.{and-yes}
 
 pub never : false ≡ true → ⊥
 never e = let z : _≡_ {A = ℕ} 0 1 = cc in omega arith

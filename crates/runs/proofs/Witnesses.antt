@@ -6,7 +6,7 @@ use Prim.Native.Nat.{ℕ, zero, suc, _*_, _≤_, _<_}
 use native.Mathlib.Omega.{arith}
 use native.Mathlib.Nat.{suc-mul, zero-mul}
 use lib.ListN.{length, getD, length-append, length-map}
-use Rattle.number.specs.Reading.{got, refused}
+use Rattle.file_numbers.specs.Reading.{got, refused}
 use Rattle.road.specs.File.{Road}
 use Rattle.integers.specs.Fraction.{_-ᶠ_, size, _≤ᶠ_}
 use Rattle.road.specs.Exact.{Side, total, edge}
@@ -17,20 +17,20 @@ use Rattle.road.specs.Rules.{accepted}
 use Rattle.road.specs.Machine.{Call, Answer, wrote, rowAnswer, step, trace}
 use Rattle.road.specs.Listing.{listingCalls}
 use Rattle.road.specs.Compute.{computed}
-use Rattle.theorems.specs.Buffer.{step-length}
-use Rattle.theorems.specs.Members.{item-has}
-use Rattle.theorems.specs.Neighbours.{listed-neighbouring}
-use Rattle.theorems.specs.Visits.{rowAt}
+use Rattle.laws_of_lines.specs.Buffer.{step-length}
+use Rattle.laws_of_search.specs.Members.{item-has}
+use Rattle.laws_of_blade.specs.Neighbours.{listed-neighbouring}
+use Rattle.laws_of_stations.specs.Visits.{rowAt}
 use Rattle.stationing.specs.Routines.{row-written, row-accepted}
 use Rattle.runs.specs.Answers.{numbersOf, code, first, second}
 use Rattle.runs.specs.Calls.{callOf, callsOf, kindsOf, stationsOf, calls-back, calls-even, runOf}
 use Rattle.runs.specs.Recorded.{Recorded, sized, lastBuffer, framesOf}
-use Rattle.runs.specs.Rows.{Close, IsRow, BladeRecorded, TurnedAway}
+use Rattle.runs.specs.RecordedRows.{Close, IsRow, BladeRecorded, TurnedAway}
 use Rattle.runs.specs.Listing.{ListingRecorded}
 use Rattle.runs.proofs.Lengths.{run-length}
 use Rattle.runs.proofs.Sizes.{lent, lent-sized}
 use Rattle.runs.proofs.Seen.{seen-run}
-use Rattle.runs.proofs.Rows.{RowCall, row-call, blade-recorded}
+use Rattle.runs.proofs.RowsBack.{RowCall, row-call, blade-recorded}
 use Rattle.runs.proofs.Refused.{turned-away}
 use Rattle.runs.proofs.Listing.{listing-recorded}
 
@@ -93,7 +93,7 @@ module _ (f : List ℕ) (r : Road) (end : ℕ) (e : accepted f ≡ got r end) wh
   unfolding step
   step-row b k s room q h =
       let g = row-written r s b room h in
-      let w : wrote (length (line r s)) ≡ rowAnswer f s (length b) = row-accepted f s b r end (sym e) (g .answered, g .buffer) .0 in
+      let w : wrote (length (line r s)) ≡ rowAnswer f s (length b) = row-accepted f s b r end e (g .answered, g .buffer) .0 in
       ap (λ (j : ℕ). code (step f b (callOf j s))) q ∙ ap (λ (a : Answer). numbersOf a .code) (sym w)
 
   code-row : (b ks ss : List ℕ) (i : ℕ) → 96 ≤ length b → i < length ks → i < length ss → getD ks i 0 ≡ 0 → getD ss i 0 ≤ total r → getD (map code (trace f b (callsOf ks ss))) i 0 ≡ 1

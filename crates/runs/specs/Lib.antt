@@ -1,5 +1,5 @@
 pub mod Answers
 pub mod Calls
 pub mod Recorded
-pub mod Rows
+pub mod RecordedRows
 pub mod Listing

@@ -3,14 +3,14 @@ use mathlib.Core.Path.{_≡_}
 use mathlib.Core.List.{List, [], _∷_, _++_, map}
 use Prim.Native.Nat.{ℕ, _≤_}
 use lib.ListN.{length}
-use Rattle.number.specs.Reading.{got}
+use Rattle.file_numbers.specs.Reading.{got}
 use Rattle.road.specs.File.{Road}
 use Rattle.road.specs.Exact.{total}
 use Rattle.road.specs.Listed.{listed}
 use Rattle.road.specs.Rules.{accepted}
 use Rattle.road.specs.Blade.{Row, rowsOf}
 use Rattle.road.specs.Listing.{listingCalls}
-use Rattle.theorems.specs.Visits.{rowAt}
+use Rattle.laws_of_stations.specs.Visits.{rowAt}
 use Rattle.runs.specs.Calls.{callsOf}
 use Rattle.runs.specs.Recorded.{seenIn}
 

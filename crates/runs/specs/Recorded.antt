@@ -42,7 +42,7 @@ pub record Room (k at size codes firsts seconds frames : ℕ) : Type 0 where
   pub second : k < seconds
   pub frame : at + size ≤ frames
 
--- call c on file f and buffer b recorded there; the primed lists are what is left
+-- call c on file f and buffer b recorded there; the primed lists are as it leaves them
 pub record CallRecorded (f b : List ℕ) (c : Call) (k at : ℕ) (cs ns ps fs b′ cs′ ns′ ps′ fs′ : List ℕ) : Type 0 where
   pub buffer : b′ ≡ step f b c .buffer
   pub codes : cs′ ≡ set cs k (code (step f b c))

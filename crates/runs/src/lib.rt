@@ -7,13 +7,13 @@ ghost use mathlib.Core.List.{_++_};
 ghost use Prim.Native.Nat.{ℕ, _+_, _*_, _≤_};
 ghost use lib.Dec.{eqb};
 ghost use lib.ListN.{length, take, drop};
-ghost use Rattle.number.specs.Reading.{refused};
+ghost use Rattle.file_numbers.specs.Reading.{refused};
 ghost use Rattle.road.specs.Rules.{accepted};
 ghost use Rattle.road.specs.Machine.{ofRow, ofNext, step};
 ghost use Rattle.runs.specs.Answers.{numbersOf};
 ghost use Rattle.runs.specs.Calls.{callOf};
 ghost use Rattle.runs.specs.Recorded.{Recorded, CallRecorded, Room, Lent, sized};
-ghost use Rattle.runs.specs.Rows.{BladeRecorded, TurnedAway};
+ghost use Rattle.runs.specs.RecordedRows.{BladeRecorded, TurnedAway};
 ghost use Rattle.runs.specs.Listing.{ListingRecorded};
 
 // An answer as three numbers: 0 a refusal, 1 a line's length, 2 a station, 3 no station; then what it says.

@@ -1,5 +1,5 @@
 -- The numbers of a call say its answer: no refusal has the number 0, and no station is the mark for none.
-use mathlib.Core.Path.{_≡_, refl, sym, ap, _∙_}
+use mathlib.Core.Path.{_≡_, refl, ap, _∙_}
 use mathlib.Core.Bool.{Bool, true, false}
 use mathlib.Core.List.{List}
 use mathlib.Core.Logic.{_⊎_, inl, inr}
@@ -9,26 +9,25 @@ use native.Mathlib.Omega.{arith}
 use borrow.Author.Tests.{ne-eqb}
 use lib.Dec.{ltb, eqb}
 use lib.ListN.{length}
-use Rattle.number.specs.Reading.{Got, got, refused}
+use Rattle.file_numbers.specs.Reading.{Got, got, refused}
 use Rattle.road.specs.Base.{if_then_else_}
 use Rattle.road.specs.File.{Road, read}
 use Rattle.road.specs.Exact.{total}
 use Rattle.road.specs.Line.{line}
-use Rattle.road.specs.Listed.{nextListed, stations}
+use Rattle.road.specs.Listed.{stations}
 use Rattle.road.specs.Limits.{limits}
 use Rattle.road.specs.Rules.{accepted}
 use Rattle.road.specs.Machine.{Answer, refusal, wrote, station, noStation, rowOn, rowAnswer, stationOr, nextOn, nextAnswer}
-use Rattle.theorems.specs.Guaranteed.{Guaranteed, guaranteed}
-use Rattle.theorems.specs.Next.{Least, least, nothing, next-least, listed-has}
-use Rattle.theorems.specs.Refusals.{ByRule, refused-iff, read-number, rule-number}
-use Rattle.walk.specs.Rows.{chunk, onward, answer}
+use Rattle.laws_of_acceptance.specs.Guaranteed.{Guaranteed, guaranteed}
+use Rattle.laws_of_stations.specs.Next.{Least, least, nothing, next-least, listed-has}
+use Rattle.laws_of_acceptance.specs.Refusals.{ByRule, refused-iff, read-number, rule-number}
+use Rattle.walk.specs.FittingRows.{chunk, onward, answer}
 use Rattle.walk.specs.Inside.{listed-inside}
-use Rattle.walk.specs.Whole.{onward-listed}
-use Rattle.walk.specs.declared.Chunk.{Chunk}
+use Rattle.walk.specs.AllChunks.{onward-listed}
 use Rattle.walk.specs.declared.Onward.{Onward}
 use Rattle.walk.specs.declared.Onward.the-variants as onwards
 use Rattle.listing.specs.Chunks.{Listed, turnedAway, part, listOn, listAnswer}
-use Rattle.voardusk.specs.Codes.{markForNone, returnedNumber, answerNumber, listReturnedNumber, listAnswerNumber, listNextNumber, goesOn}
+use Rattle.voardusk.specs.Codes.{markForNone, returnedNumber, answerNumber, listReturnedNumber, listAnswerNumber, listNextNumber}
 
 -- ---- what a caller reads from the numbers
 abbrev pub rowSaid : (number answer : ℕ) → Answer

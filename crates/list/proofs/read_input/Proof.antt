@@ -1,3 +1,4 @@
+-- Each read brings the buffer nearer to its end; what was read stays within it.
 use Prim.Native.Nat.{_≤_, _-_}
 use mathlib.Core.Path.{_≡_}
 use lib.ListN.{length}

@@ -8,8 +8,9 @@ use Rattle.runs.proofs.record_call.Tie as tie
 
 returns : tie.Need-returns
 returns c =
-    let a = c .before .before .before .before .before .before .before .before .before .before .before .before .before .before .before .args in
-    let called = c .before .before .before .before .before .before .before .call .ensures in
+    let at-call = c .before .before .before .before .before .before .before in
+    let a = at-call .before .before .before .before .before .before .before .before .args in
+    let called = at-call .call .ensures in
     record {
       buffer = called .1;
       codes = ap (λ (n : AnswerNumbers). set (a .codes .now) (a .k) (n .code)) (called .0);

@@ -5,13 +5,18 @@ use borrow.Author.Needs.{needs}
 use Rattle.runs.proofs.run.Statement.{statement}
 use Rattle.runs.proofs.run.Tie as tie
 
+-- from the run's end back to the sizes' test
+abbrev ran : tie.After-slice-known10 → tie.After-run-sized
+ran c = c .before .before .before .before .before .before .before .before .before .before
+
 run-sized-requires : tie.Need-run-sized-requires
-run-sized-requires c κs = lent (sym (c .before .before .before .before .before .before .all-sized .ensures) ∙ c .before .before .before .before .before .if1 .taken)
+run-sized-requires c κs = let t = c .before .before .before .before .before in lent (sym (t .before .all-sized .ensures) ∙ t .if1 .taken)
 
 returns : tie.Need-returns
 returns c =
-    let recorded = c .before .before .before .before .before .before .before .before .before .before .run-sized .ensures in (
-      sym (c .before .before .before .before .before .before .before .before .before .before .before .before .before .before .before .before .if1 .taken) ∙ c .before .before .before .before .before .before .before .before .before .before .before .before .before .before .before .before .before .all-sized .ensures,
+    let recorded = ran c .run-sized .ensures in
+    let t = ran c .before .before .before .before .before .before in (
+      sym (t .if1 .taken) ∙ t .before .all-sized .ensures,
       (λ e. recorded .0, (λ e. recorded .1 .0, (λ e. recorded .1 .1 .0, (λ e. recorded .1 .1 .1, λ e. absurd (never (sym e)))))),
     )
 

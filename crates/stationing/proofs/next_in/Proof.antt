@@ -1,7 +1,7 @@
 use mathlib.Core.Path.{sym, ap, _∙_}
 use borrow.Author.Needs.{needs}
 use Rattle.road.specs.Machine.{stationOr}
-use Rattle.listed.specs.Least.{asOption}
+use Rattle.next_listed.specs.Least.{asOption}
 use Rattle.stationing.proofs.next_in.Statement.{statement}
 use Rattle.stationing.proofs.next_in.Tie as tie
 
