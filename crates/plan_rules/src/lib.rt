@@ -5,6 +5,7 @@ ghost use mathlib.Core.Bool.{false};
 ghost use Rattle.limits.specs.Row.{asLimits};
 ghost use Rattle.road.specs.declared.ElementRule.{ElementRule};
 ghost use Rattle.road.specs.Rules.{wrongKind, longStraight, shortStraight, tightArc, shortArc, ownArc, shortClothoid, elementTest};
+ghost use Rattle.plan_rules.specs.Any.{anyBroken};
 use limits::Limits;
 use road::Element;
 use road::ElementRule;
@@ -139,7 +140,7 @@ pub fn is_any_broken(
     e: Element,
     after: Element,
 ) -> bool
-    ensures { λ r. ⌜ (r ≡ false → (x : ElementRule) → elementTest x .broken (asLimits l) (record { place = place; count = count; end = end; before = before; element = e; after = after }) ≡ false) ⌝ }
+    ensures { λ r. ⌜ r ≡ anyBroken (asLimits l) (record { place = place; count = count; end = end; before = before; element = e; after = after }) ⌝ }
 {
     let kind = is_wrong_kind(place, count, e);
     let straight = is_long_straight(l, e);

@@ -5,7 +5,6 @@ ghost use lib.ListN.{length};
 ghost use Rattle.road.specs.Base.{firstThat};
 ghost use Rattle.road.specs.Exact.{tangentStart, total};
 ghost use Rattle.road.specs.Held.{roadIn, Counted};
-ghost use Rattle.road.specs.Limits.{limits};
 ghost use Rattle.laws_of_acceptance.specs.PlanOrder.{PlanOrder};
 ghost use Rattle.laws_of_acceptance.specs.PointOrder.{PointOrder};
 ghost use Rattle.road.specs.Rules.{otherTotal, roadTest, firstBroken, judged};

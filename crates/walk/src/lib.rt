@@ -1,4 +1,4 @@
-// The rows of the listed stations in one walk along the three lists of an accepted alignment.
+// The rows of the listed stations in one walk along the three lists of an accepted road.
 ghost use mathlib.Core.Path.{_≡_};
 ghost use mathlib.Core.List.{List·Memᴰ};
 ghost use Prim.Native.Nat.{_≤_, min};

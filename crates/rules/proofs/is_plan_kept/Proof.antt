@@ -1,5 +1,5 @@
 -- The loop keeps the element before, and each turn is a law of `Clear` about element i; the place behind the last one is passed too.
-use mathlib.Core.Path.{_≡_, refl, sym}
+use mathlib.Core.Path.{_≡_, refl, sym, _∙_}
 use mathlib.Core.Bool.{false}
 use Prim.Native.Nat.{suc, _+_, _-_, _≤_}
 use native.Mathlib.Omega.{arith}
@@ -10,6 +10,7 @@ use Rattle.road.specs.Held.{roadIn}
 use Rattle.laws_of_acceptance.specs.Lists.{unmapped, plan-count, item-or, next-or}
 use Rattle.laws_of_lists.specs.Tests.{true-false}
 use Rattle.limits.specs.Row.{asLimits}
+use Rattle.plan_rules.specs.Any.{none-broken}
 use Rattle.rules.specs.Kept.{Clear, clear-start, clear-on, clear-kept}
 use Rattle.rules.proofs.is_plan_kept.Statement.{statement}
 use Rattle.rules.proofs.is_plan_kept.Tie as tie
@@ -48,7 +49,7 @@ loop-again c =
     let d = c .before in
     let v = at d .loop in
     let t = d .before .before .before .before .if2 .taken in
-    (v .inv .0, omega arith, clear-on (v .inv .2) (let n = v .inv .0 in omega arith) (omega arith) (count (begun d)) (next-is d) (d .is-any-broken .ensures (c .if4 .left)))
+    (v .inv .0, omega arith, clear-on (v .inv .2) (let n = v .inv .0 in omega arith) (omega arith) (count (begun d)) (next-is d) (none-broken (asLimits (begun d .args .l)) (record { place = v .i; count = begun d .args .a .«element_count»; end = _; before = v .before; element = v .e; after = d .before .before .if3 .after }) (sym (d .is-any-broken .ensures) ∙ c .if4 .left)))
 
 returns-2 : tie.Need-returns-2 Inv-loop μ-loop
 returns-2 c e = let l = c .before .before in clear-kept (l .loop .inv .2) (omega (arith, count (l .before .before .before .before), c .if2 .left))
