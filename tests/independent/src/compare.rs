@@ -2,13 +2,14 @@
 
 use std::fmt::Debug;
 
-use crate::blade::{self, Row};
+use crate::blade;
 use crate::generate::random::Random;
 use crate::hexadecimal;
-use crate::reference::file::{Alignment, Refusal};
-use crate::reference::machine::{self, Answer, PartAnswer};
-use crate::reference::stations;
 use crate::summary::Summary;
+use reference::blade::{neighbouring, Row};
+use reference::file::{Alignment, Refusal};
+use reference::machine::{self, Answer, PartAnswer};
+use reference::stations;
 
 fn refusal(refusal: voardusk::Refusal) -> Refusal {
     Refusal {
@@ -188,7 +189,7 @@ fn compare_run(
     let Some(road) = road else { return Ok(()) };
     rows.sort_by_key(|row| row.station);
     for pair in rows.windows(2) {
-        if blade::neighbouring(road, pair[0].station, pair[1].station) {
+        if neighbouring(road, pair[0].station, pair[1].station) {
             summary.blade_places += blade::check(random, road, pair[0], pair[1])?;
         }
     }

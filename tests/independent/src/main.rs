@@ -6,7 +6,6 @@ mod blade;
 mod compare;
 mod generate;
 mod hexadecimal;
-mod reference;
 mod summary;
 mod vectors;
 

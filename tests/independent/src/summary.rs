@@ -5,7 +5,7 @@ use std::fmt;
 use crate::generate::edges::EDGES;
 use crate::generate::features::{features, FEATURES};
 use crate::generate::{FileKind, FILE_KINDS};
-use crate::reference::file::{Alignment, Refusal};
+use reference::file::{Alignment, Refusal};
 
 pub struct Summary {
     pub files: u64,

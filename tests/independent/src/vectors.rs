@@ -4,7 +4,7 @@ use std::fs;
 use std::path::Path;
 
 use crate::hexadecimal;
-use crate::reference::machine::{self, Answer};
+use reference::machine::{self, Answer};
 
 /// Checks NNNN.in against NNNN.out and NNNN.run; the count of files, and those that differ.
 pub fn check(directory: &Path) -> std::io::Result<(usize, Vec<(String, String)>)> {

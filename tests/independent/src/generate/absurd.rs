@@ -4,7 +4,7 @@ use super::numbers::file;
 use super::random::Random;
 use super::valid::plan::total;
 use super::valid::{divided_up, random_start_height};
-use crate::reference::file::{Alignment, CrossfallPoint, Element, Kind, Tangent};
+use reference::file::{Alignment, CrossfallPoint, Element, Kind, Tangent};
 
 /// Random bytes, runs of one byte, small numbers.
 pub fn bytes(random: &mut Random) -> Vec<u8> {

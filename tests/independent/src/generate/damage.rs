@@ -4,8 +4,8 @@ use super::edges::plan::change_kind;
 use super::numbers::{bytes_of, file, number_bytes, numbers, Number};
 use super::random::Random;
 use super::valid::alignment;
-use crate::reference::file::Alignment;
-use crate::reference::limits::limits;
+use reference::file::Alignment;
+use reference::limits::limits;
 
 const DAMAGES: [usize; 28] = [
     0, 1, 2, 2, 2, 2, 2, 3, 3, 3, 4, 4, 5, 6, 6, 7, 7, 7, 8, 9, 10, 11, 12, 12, 13, 14, 14, 15,

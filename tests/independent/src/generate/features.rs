@@ -3,9 +3,9 @@
 use super::valid::crossfall::arcs;
 use super::valid::plan::least_clothoid;
 use super::valid::profile::least_half_length;
-use crate::reference::file::{Alignment, CrossfallPoint, Element, Kind};
-use crate::reference::limits::{limits, speed, Limits};
-use crate::reference::road;
+use reference::file::{Alignment, CrossfallPoint, Element, Kind};
+use reference::limits::{limits, speed, Limits};
+use reference::road;
 
 type Feature = (&'static str, fn(&Alignment, &Limits) -> bool);
 

@@ -1,6 +1,6 @@
 //! From an alignment to the numbers of a file and to its bytes.
 
-use crate::reference::file::{Alignment, Kind};
+use reference::file::{Alignment, Kind};
 
 /// What a number of the file stands for.
 #[derive(Clone, Copy, Debug, PartialEq, Eq)]

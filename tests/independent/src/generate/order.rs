@@ -4,8 +4,8 @@ use super::numbers::file;
 use super::random::Random;
 use super::valid::plan::{least_clothoid, plan_of_radii};
 use super::valid::{upon_plan, Size, LONGEST_LENGTH};
-use crate::reference::file::{Alignment, Element, Kind};
-use crate::reference::limits::{limits, Limits};
+use reference::file::{Alignment, Element, Kind};
+use reference::limits::{limits, Limits};
 
 /// A road of bends to one side that breaks two or three of the rules 5 to 19.
 pub fn rules_broken_together(random: &mut Random) -> Vec<u8> {

@@ -5,8 +5,8 @@ use super::numbers::{file, numbers};
 use super::random::Random;
 use super::valid::alignment;
 use super::{make_file, FileKind};
-use crate::reference::file::read;
-use crate::reference::machine::accept;
+use reference::file::read;
+use reference::machine::accept;
 
 #[test]
 fn valid_roads_are_accepted() {

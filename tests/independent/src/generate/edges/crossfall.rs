@@ -7,8 +7,8 @@ use crate::generate::valid::plan::plan_of_radii;
 use crate::generate::valid::{
     alignment, alignment_of, upon_plan, Size, LONGEST_LENGTH, LONGEST_PLAN,
 };
-use crate::reference::file::{Alignment, Element, Kind};
-use crate::reference::limits::{limits, Limits};
+use reference::file::{Alignment, Element, Kind};
+use reference::limits::{limits, Limits};
 
 pub fn first_point(random: &mut Random, outside: bool) -> Made {
     let (mut alignment, _) = road_with(random, alignment, |road| {

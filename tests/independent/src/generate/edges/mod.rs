@@ -7,8 +7,8 @@ mod shape;
 
 use super::numbers::{file, Field};
 use super::random::Random;
-use crate::reference::file::{Alignment, Refusal};
-use crate::reference::limits::{limits, Limits};
+use reference::file::{Alignment, Refusal};
+use reference::limits::{limits, Limits};
 use shape::Bound;
 
 /// What the paper must say of a file.

@@ -6,8 +6,8 @@ use crate::generate::valid::plan::{least_clothoid, plan, plan_of_radii, stretch,
 use crate::generate::valid::{
     alignment, alignment_of, upon_plan, Size, LONGEST_LENGTH, LONGEST_PLAN,
 };
-use crate::reference::file::{Alignment, Element, Kind};
-use crate::reference::limits::{limits, Limits};
+use reference::file::{Alignment, Element, Kind};
+use reference::limits::{limits, Limits};
 
 /// A road as long as a plan may be.
 fn longest_road(random: &mut Random) -> Alignment {

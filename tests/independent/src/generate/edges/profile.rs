@@ -4,7 +4,7 @@ use super::{accepted_or, road_with, Made};
 use crate::generate::random::Random;
 use crate::generate::valid::profile::least_half_length;
 use crate::generate::valid::{alignment, LONGEST_LENGTH};
-use crate::reference::limits::limits;
+use reference::limits::limits;
 
 pub fn grade_max(random: &mut Random, outside: bool) -> Made {
     let (mut alignment, place) = road_with(random, alignment, |road| {

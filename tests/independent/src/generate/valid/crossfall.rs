@@ -3,8 +3,8 @@
 use super::divided_up;
 use super::plan::total;
 use crate::generate::random::Random;
-use crate::reference::file::{CrossfallPoint, Element, Kind};
-use crate::reference::limits::Limits;
+use reference::file::{CrossfallPoint, Element, Kind};
+use reference::limits::Limits;
 
 /// Left and right crossfall.
 pub type Crossfall = (i128, i128);

@@ -5,11 +5,11 @@ pub mod plan;
 pub mod profile;
 
 use super::random::Random;
-use crate::reference::file::{Alignment, Element};
-use crate::reference::limits::limits;
 use crossfall::crossfalls;
 use plan::{plan, stretch, total};
 use profile::profile;
+use reference::file::{Alignment, Element};
+use reference::limits::limits;
 
 pub const LONGEST_PLAN: i128 = 100_000_000;
 pub const LONGEST_LENGTH: i128 = 10_000_000;

@@ -2,8 +2,8 @@
 
 use super::{divided_up, Size, LONGEST_LENGTH, LONGEST_PLAN};
 use crate::generate::random::Random;
-use crate::reference::file::{Element, Kind};
-use crate::reference::limits::Limits;
+use reference::file::{Element, Kind};
+use reference::limits::Limits;
 
 /// A length not below a least one.
 fn length_from(random: &mut Random, least: i128, spread: i128) -> i128 {

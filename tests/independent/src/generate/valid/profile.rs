@@ -4,8 +4,8 @@ use std::collections::BTreeSet;
 
 use super::{divided_up, LONGEST_LENGTH};
 use crate::generate::random::Random;
-use crate::reference::file::Tangent;
-use crate::reference::limits::Limits;
+use reference::file::Tangent;
+use reference::limits::Limits;
 
 /// Lengths of so many tangents that add up to T.
 fn tangent_lengths(random: &mut Random, total: i128, wanted: usize) -> Vec<i128> {

@@ -1,9 +1,9 @@
 //! The starred items and the sample list of document 01.
 
-use super::file::{read, Refusal};
-use super::fraction::Fraction;
-use super::machine::{accept, list, next_station, printed_list, row, Answer, PartAnswer};
-use super::{road, stations};
+use crate::file::{read, Refusal};
+use crate::fraction::Fraction;
+use crate::machine::{accept, list, next_station, printed_list, row, Answer, PartAnswer};
+use crate::{road, stations};
 
 /// A number in shortest form.
 fn number(value: u64) -> Vec<u8> {

@@ -1,82 +1,134 @@
 //! "Numbers that turn a file away", refusals 5 to 19.
 //!
-//! Each function gives the first item that breaks its rule. "The lowest refusal wins", so a
-//! rule is only asked where all before it hold.
+//! Each function gives the items that break its rule, in order. "The lowest refusal wins", so a
+//! rule is only asked where those that it takes for granted hold.
 
-use super::file::{Alignment, CrossfallPoint, Element, Kind, Refusal};
-use super::fraction::Fraction;
-use super::limits::{limits, Limits};
-use super::road;
+use crate::file::{Alignment, CrossfallPoint, Element, Kind, Refusal};
+use crate::fraction::Fraction;
+use crate::limits::{limits, Limits};
+use crate::road;
 
-type Rule = fn(&Alignment, &Limits) -> Option<usize>;
+struct Rule {
+    number: i128,
+    /// The rules without which this one has no meaning.
+    rests_on: &'static [i128],
+    broken_at: fn(&Alignment, &Limits) -> Vec<usize>,
+}
 
-const RULES: [(i128, Rule); 15] = [
-    (5, plan_too_long),
-    (6, tangents_do_not_add_up),
-    (7, wrong_kind),
-    (8, straight_too_long),
-    (9, straight_too_short),
-    (10, radius_too_small),
-    (11, arc_too_short),
-    (12, clothoid_too_short),
-    (13, grade_too_steep),
-    (14, tangent_too_short),
-    (15, vertical_curve_too_sharp),
-    (16, point_misplaced),
-    (17, crossfall_outside_limits),
-    (18, ramp_too_steep),
-    (19, wrong_crossfall_on_arc),
+const fn rule(
+    number: i128,
+    rests_on: &'static [i128],
+    broken_at: fn(&Alignment, &Limits) -> Vec<usize>,
+) -> Rule {
+    Rule {
+        number,
+        rests_on,
+        broken_at,
+    }
+}
+
+const RULES: [Rule; 15] = [
+    rule(5, &[], plan_too_long),
+    rule(6, &[], tangents_do_not_add_up),
+    rule(7, &[], wrong_kind),
+    rule(8, &[], straight_too_long),
+    rule(9, &[7], straight_too_short),
+    rule(10, &[], radius_too_small),
+    rule(11, &[], arc_too_short),
+    rule(12, &[7], clothoid_too_short),
+    rule(13, &[], grade_too_steep),
+    rule(14, &[], tangent_too_short),
+    rule(15, &[], vertical_curve_too_sharp),
+    rule(16, &[], point_misplaced),
+    rule(17, &[], crossfall_outside_limits),
+    rule(18, &[16], ramp_too_steep),
+    rule(19, &[7, 16], wrong_crossfall_on_arc),
 ];
 
 /// "from 5 on, the lowest refusal wins, then the first item"
 pub fn judge(alignment: &Alignment) -> Result<(), Refusal> {
     let limits = limits(alignment.class, alignment.terrain);
-    for (number, rule) in RULES {
-        if let Some(place) = rule(alignment, &limits) {
-            let place = place as i128;
-            return Err(Refusal { number, place });
+    for rule in &RULES {
+        if let Some(&place) = (rule.broken_at)(alignment, &limits).first() {
+            return Err(refusal(rule.number, place));
         }
     }
     Ok(())
 }
 
-/// The first element of a kind that has a fault.
-fn first_of_kind(
+fn refusal(number: i128, place: usize) -> Refusal {
+    let place = place as i128;
+    Refusal { number, place }
+}
+
+/// Every rule from 5 on, asked of every item.
+#[derive(Clone, Debug, Default)]
+pub struct Judgement {
+    /// Each broken rule with each item that breaks it, in the order of the rules, then of the items.
+    pub broken: Vec<Refusal>,
+    /// The rules that could not be asked, since one that they rest on is broken.
+    pub not_asked: Vec<i128>,
+}
+
+/// Every broken rule at once; the first of them is the one that turns the file away.
+pub fn judge_all(alignment: &Alignment) -> Judgement {
+    let limits = limits(alignment.class, alignment.terrain);
+    let mut judgement = Judgement::default();
+    for rule in &RULES {
+        let is_broken = |number: &i128| judgement.broken.iter().any(|r| r.number == *number);
+        if rule.rests_on.iter().any(is_broken) {
+            judgement.not_asked.push(rule.number);
+            continue;
+        }
+        let places = (rule.broken_at)(alignment, &limits);
+        let refusals = places.iter().map(|&place| refusal(rule.number, place));
+        judgement.broken.extend(refusals);
+    }
+    judgement
+}
+
+/// The elements of a kind that have a fault.
+fn all_of_kind(
     alignment: &Alignment,
     kind: Kind,
     faulty: impl Fn(usize, &Element) -> bool,
-) -> Option<usize> {
-    (0..alignment.elements.len()).find(|&place| {
+) -> Vec<usize> {
+    places(alignment.elements.len(), |place| {
         let element = &alignment.elements[place];
         element.kind == kind && faulty(place, element)
     })
 }
 
+/// The places, of so many, that have a fault.
+fn places(count: usize, faulty: impl Fn(usize) -> bool) -> Vec<usize> {
+    (0..count).filter(|&place| faulty(place)).collect()
+}
+
 /// Refusal 5: "The running plan length passes 100,000,000 (place: element)."
-fn plan_too_long(alignment: &Alignment, _: &Limits) -> Option<usize> {
+fn plan_too_long(alignment: &Alignment, _: &Limits) -> Vec<usize> {
     let mut running = 0;
     for (place, element) in alignment.elements.iter().enumerate() {
         running += element.length;
         if running > 100_000_000 {
-            return Some(place);
+            return vec![place];
         }
     }
-    None
+    Vec::new()
 }
 
 /// Refusal 6: "The tangents do not add up to T (place 0)."
-fn tangents_do_not_add_up(alignment: &Alignment, _: &Limits) -> Option<usize> {
+fn tangents_do_not_add_up(alignment: &Alignment, _: &Limits) -> Vec<usize> {
     let sum: i128 = alignment
         .tangents
         .iter()
         .map(|tangent| tangent.length)
         .sum();
-    (sum != alignment.total_length()).then_some(0)
+    places(1, |_| sum != alignment.total_length())
 }
 
 /// Refusal 7: "The kinds do not run 0, then any count of 2, 1, 2, 0 (place: first wrong element,
 /// or the plan count where it stops short)."
-fn wrong_kind(alignment: &Alignment, _: &Limits) -> Option<usize> {
+fn wrong_kind(alignment: &Alignment, _: &Limits) -> Vec<usize> {
     let kinds: Vec<Kind> = alignment.elements.iter().map(|e| e.kind).collect();
     for (place, kind) in kinds.iter().enumerate() {
         let right = match place % 4 {
@@ -85,25 +137,32 @@ fn wrong_kind(alignment: &Alignment, _: &Limits) -> Option<usize> {
             _ => Kind::Clothoid,
         };
         if *kind != right {
-            return Some(place);
+            return vec![place];
         }
     }
-    (kinds.len() % 4 != 1).then_some(kinds.len())
+    match kinds.len() % 4 {
+        1 => Vec::new(),
+        _ => vec![kinds.len()],
+    }
 }
 
 /// Refusal 8: "A straight is longer than straight max (place: element)."
-fn straight_too_long(alignment: &Alignment, limits: &Limits) -> Option<usize> {
-    let straight_max = limits.straight_max?;
-    first_of_kind(alignment, Kind::Straight, |_, straight| {
+fn straight_too_long(alignment: &Alignment, limits: &Limits) -> Vec<usize> {
+    let Some(straight_max) = limits.straight_max else {
+        return Vec::new();
+    };
+    all_of_kind(alignment, Kind::Straight, |_, straight| {
         straight.length > straight_max
     })
 }
 
 /// Refusal 9: "A straight between bends of the same turn is shorter than straight min (place:
 /// element)."
-fn straight_too_short(alignment: &Alignment, limits: &Limits) -> Option<usize> {
-    let straight_min = limits.straight_min?;
-    first_of_kind(alignment, Kind::Straight, |place, straight| {
+fn straight_too_short(alignment: &Alignment, limits: &Limits) -> Vec<usize> {
+    let Some(straight_min) = limits.straight_min else {
+        return Vec::new();
+    };
+    all_of_kind(alignment, Kind::Straight, |place, straight| {
         between_same_turns(alignment, place) && straight.length < straight_min
     })
 }
@@ -120,39 +179,39 @@ fn between_same_turns(alignment: &Alignment, straight: usize) -> bool {
 }
 
 /// Refusal 10: "An arc's radius, unsigned, is below R min (place: element)."
-fn radius_too_small(alignment: &Alignment, limits: &Limits) -> Option<usize> {
-    first_of_kind(alignment, Kind::Arc, |_, arc| {
+fn radius_too_small(alignment: &Alignment, limits: &Limits) -> Vec<usize> {
+    all_of_kind(alignment, Kind::Arc, |_, arc| {
         arc.radius.abs() < limits.radius_min
     })
 }
 
 /// Refusal 11: "An arc is shorter than arc min (place: element)."
-fn arc_too_short(alignment: &Alignment, limits: &Limits) -> Option<usize> {
-    first_of_kind(alignment, Kind::Arc, |_, arc| arc.length < limits.arc_min)
+fn arc_too_short(alignment: &Alignment, limits: &Limits) -> Vec<usize> {
+    all_of_kind(alignment, Kind::Arc, |_, arc| arc.length < limits.arc_min)
 }
 
 /// Refusal 12: "A clothoid's length times its arc's unsigned radius is below A min squared (place:
 /// element)."
-fn clothoid_too_short(alignment: &Alignment, limits: &Limits) -> Option<usize> {
+fn clothoid_too_short(alignment: &Alignment, limits: &Limits) -> Vec<usize> {
     let squared = limits.clothoid_parameter_min * limits.clothoid_parameter_min;
-    first_of_kind(alignment, Kind::Clothoid, |place, clothoid| {
+    all_of_kind(alignment, Kind::Clothoid, |place, clothoid| {
         let radius = road::arc_of_clothoid(alignment, place).radius;
         clothoid.length * radius.abs() < squared
     })
 }
 
 /// Refusal 13: "A grade, unsigned, is over grade max (place: tangent)."
-fn grade_too_steep(alignment: &Alignment, limits: &Limits) -> Option<usize> {
-    alignment
-        .tangents
-        .iter()
-        .position(|tangent| tangent.grade.abs() > limits.grade_max)
+fn grade_too_steep(alignment: &Alignment, limits: &Limits) -> Vec<usize> {
+    let tangents = &alignment.tangents;
+    places(tangents.len(), |place| {
+        tangents[place].grade.abs() > limits.grade_max
+    })
 }
 
 /// Refusal 14: "A tangent is shorter than the half lengths at its ends together (place: tangent)."
-fn tangent_too_short(alignment: &Alignment, _: &Limits) -> Option<usize> {
+fn tangent_too_short(alignment: &Alignment, _: &Limits) -> Vec<usize> {
     let tangents = &alignment.tangents;
-    (0..tangents.len()).find(|&place| {
+    places(tangents.len(), |place| {
         let half_at_start = if place == 0 {
             0
         } else {
@@ -165,9 +224,9 @@ fn tangent_too_short(alignment: &Alignment, _: &Limits) -> Option<usize> {
 
 /// Refusal 15: "2h x 10^6 is below the vertical radius x |g2 - g1|, sag R where g2 > g1, else
 /// crest R (place: vertex)."
-fn vertical_curve_too_sharp(alignment: &Alignment, limits: &Limits) -> Option<usize> {
+fn vertical_curve_too_sharp(alignment: &Alignment, limits: &Limits) -> Vec<usize> {
     let tangents = &alignment.tangents;
-    (0..tangents.len() - 1).find(|&vertex| {
+    places(tangents.len() - 1, |vertex| {
         let (before, after) = (tangents[vertex].grade, tangents[vertex + 1].grade);
         let radius = if after > before {
             limits.sag_radius
@@ -180,9 +239,9 @@ fn vertical_curve_too_sharp(alignment: &Alignment, limits: &Limits) -> Option<us
 
 /// Refusal 16: "Point 0 is not at 0, a point is not beyond its forerunner, or the last is not at T
 /// (place: point)."
-fn point_misplaced(alignment: &Alignment, _: &Limits) -> Option<usize> {
+fn point_misplaced(alignment: &Alignment, _: &Limits) -> Vec<usize> {
     let points = &alignment.points;
-    (0..points.len()).find(|&place| {
+    places(points.len(), |place| {
         let station = points[place].station;
         let start_wrong = place == 0 && station != 0;
         let not_beyond = place > 0 && station <= points[place - 1].station;
@@ -192,19 +251,19 @@ fn point_misplaced(alignment: &Alignment, _: &Limits) -> Option<usize> {
 }
 
 /// Refusal 17: "A crossfall, unsigned, is below 25,000 or above 70,000 (place: point)."
-fn crossfall_outside_limits(alignment: &Alignment, _: &Limits) -> Option<usize> {
+fn crossfall_outside_limits(alignment: &Alignment, _: &Limits) -> Vec<usize> {
     let outside = |crossfall: i128| crossfall.abs() < 25_000 || crossfall.abs() > 70_000;
-    alignment
-        .points
-        .iter()
-        .position(|point| outside(point.left) || outside(point.right))
+    let points = &alignment.points;
+    places(points.len(), |place| {
+        outside(points[place].left) || outside(points[place].right)
+    })
 }
 
 /// Refusal 18: "Lane width x change of crossfall of a side, unsigned, exceeds ramp limit x distance
 /// to the next point (place: first point of the pair)."
-fn ramp_too_steep(alignment: &Alignment, limits: &Limits) -> Option<usize> {
+fn ramp_too_steep(alignment: &Alignment, limits: &Limits) -> Vec<usize> {
     let points = &alignment.points;
-    (0..points.len() - 1).find(|&place| {
+    places(points.len() - 1, |place| {
         let (here, next) = (&points[place], &points[place + 1]);
         let allowed = alignment.ramp_limit * (next.station - here.station);
         let left = limits.lane_width * (next.left - here.left).abs();
@@ -215,9 +274,9 @@ fn ramp_too_steep(alignment: &Alignment, limits: &Limits) -> Option<usize> {
 
 /// Refusal 19: "On an arc a crossfall changes, or it is neither left = -right with the inner side
 /// negative, nor -25,000 on both sides with radius, unsigned, at least R' (place: element)."
-fn wrong_crossfall_on_arc(alignment: &Alignment, limits: &Limits) -> Option<usize> {
+fn wrong_crossfall_on_arc(alignment: &Alignment, limits: &Limits) -> Vec<usize> {
     let starts = road::element_starts(alignment);
-    first_of_kind(alignment, Kind::Arc, |place, arc| {
+    all_of_kind(alignment, Kind::Arc, |place, arc| {
         let start = starts[place];
         let left = constant_between(alignment, start, start + arc.length, |point| point.left);
         let right = constant_between(alignment, start, start + arc.length, |point| point.right);

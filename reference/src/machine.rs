@@ -1,8 +1,8 @@
 //! The plain machine: "given the file, the first buffer and the calls", it answers each call and
 //! holds the buffer that the call leaves. Every call reads the file anew.
 
-use super::file::{read, Alignment, Refusal};
-use super::{road, rules, stations};
+use crate::file::{read, Alignment, Refusal};
+use crate::{road, rules, stations};
 
 /// "The buffer is shorter than 96 bytes"
 pub const LEAST_BUFFER: usize = 96;

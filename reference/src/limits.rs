@@ -40,9 +40,16 @@ pub fn speed(class: i128, terrain: i128) -> i128 {
     by_terrain[(terrain - 1) as usize]
 }
 
+/// The seven speeds, in km/h.
+pub const SPEEDS: [i128; 7] = [40, 50, 60, 70, 80, 90, 100];
+
 /// "The row of the speed decides every limit below."
 pub fn limits(class: i128, terrain: i128) -> Limits {
-    let speed = speed(class, terrain);
+    limits_at(speed(class, terrain))
+}
+
+/// The row of a speed.
+pub fn limits_at(speed: i128) -> Limits {
     let row = TABLE
         .iter()
         .find(|row| row[0] == speed)

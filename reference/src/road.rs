@@ -1,8 +1,8 @@
 //! "The exact road", for an alignment that is not turned away and a station from 0 to T.
 
-use super::file::{Alignment, CrossfallPoint, Element, Kind};
-use super::fraction::Fraction;
-use super::limits::limits;
+use crate::file::{Alignment, CrossfallPoint, Element, Kind};
+use crate::fraction::Fraction;
+use crate::limits::limits;
 
 const MILLION: i128 = 1_000_000;
 

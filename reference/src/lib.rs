@@ -1,0 +1,17 @@
+//! Document 01 as plain code, in the paper's order, written from the paper alone.
+//! Whole numbers are 128 bits wide; exact values are fractions of whole numbers. Nothing here is proved: it is
+//! held against the proved library by `tests/independent`, and again at each use by the desk's command.
+
+#![forbid(unsafe_code)]
+
+pub mod blade;
+pub mod file;
+pub mod fraction;
+pub mod limits;
+pub mod machine;
+pub mod road;
+pub mod rules;
+pub mod stations;
+
+#[cfg(test)]
+mod tests;
