@@ -1,0 +1,58 @@
+//! The comments that a text begins with: the file's length, its refusal, speed, lane width and limits of the road.
+
+use crate::language::Language;
+use crate::refusals::counted;
+use crate::rule_book::{class_name, lines, terrain_name};
+use crate::show::line::comments as put;
+use crate::show::mark::rule;
+use crate::text::file::Numbers;
+use crate::text::lines::Part;
+use crate::text::MOST_BYTES;
+use crate::words::show as words;
+use crate::words::text::NAMED;
+
+pub fn comments(
+    length: usize,
+    refusal: Option<proved::Refusal>,
+    numbers: &Numbers,
+    language: Language,
+) -> String {
+    let mut out = String::new();
+    put(&[bytes(length, language)], &mut out);
+    if let Some(refusal) = refusal {
+        put(&[refused(refusal, language)], &mut out);
+    }
+    put(&limits(numbers, language), &mut out);
+    out
+}
+
+fn bytes(length: usize, language: Language) -> String {
+    match length > MOST_BYTES {
+        true => language.say(words::LONGER, &[&language.number(MOST_BYTES as i128)]),
+        false => language.say(words::BYTES, &[&length]),
+    }
+}
+
+fn refused(refusal: proved::Refusal, language: Language) -> String {
+    let rule = rule(refusal, language);
+    let Some(item) = counted(refusal.number()) else {
+        return language.say(words::REFUSAL_NO_PLACE, &[&refusal.number(), &rule]);
+    };
+    let item = language.say(item, &[]);
+    let values: [&dyn std::fmt::Display; 4] = [&refusal.number(), &item, &refusal.place(), &rule];
+    language.say(words::REFUSAL, &values)
+}
+
+/// What class and terrain decide, once both are read and in their ranges.
+fn limits(numbers: &Numbers, language: Language) -> Vec<String> {
+    let class = numbers.single(Part::Class);
+    let Some((class, terrain)) = class.zip(numbers.single(Part::Terrain)) else {
+        return Vec::new();
+    };
+    let (class, terrain) = (class.into(), terrain.into());
+    let names = [class_name(class), terrain_name(terrain)].map(|name| language.say(name, &[]));
+    let mut out = vec![names.join(", ")];
+    let lines = lines(class, terrain, language).into_iter();
+    out.extend(lines.map(|line| language.say(NAMED, &[&line.name, &line.value])));
+    out
+}
