@@ -1,0 +1,158 @@
+//! The least values that keep a rule.
+
+use reference::file::{Alignment, CrossfallPoint, Kind};
+use reference::limits::Limits;
+use reference::road;
+
+/// Document 01 has these for every speed.
+pub const LONGEST_PLAN: i128 = 100_000_000;
+pub const LEAST_CROSSFALL: i128 = 25_000;
+pub const GREATEST_CROSSFALL: i128 = 70_000;
+/// A file holds no greater one.
+pub const GREATEST_RAMP_LIMIT: i128 = 20_000;
+
+/// A quotient of whole numbers that are not negative, rounded up.
+fn rounded_up(dividend: i128, divisor: i128) -> i128 {
+    (dividend + divisor - 1) / divisor
+}
+
+/// The length nearest to an element's that keeps a rule about it; none where there is no length.
+pub fn element_length(
+    alignment: &Alignment,
+    limits: &Limits,
+    number: i128,
+    place: usize,
+) -> Option<i128> {
+    match number {
+        5 => {
+            Some(LONGEST_PLAN - road::element_starts(alignment)[place]).filter(|&length| length > 0)
+        }
+        8 => limits.straight_max,
+        9 => limits.straight_min,
+        11 => Some(limits.arc_min),
+        12 => Some(clothoid(
+            limits,
+            road::arc_of_clothoid(alignment, place).radius,
+        )),
+        _ => None,
+    }
+}
+
+/// "0, then any count of 2, 1, 2, 0"
+pub fn kind_due(place: usize) -> Kind {
+    match place % 4 {
+        0 => Kind::Straight,
+        2 => Kind::Arc,
+        _ => Kind::Clothoid,
+    }
+}
+
+/// The least length of a clothoid beside an arc: A min squared / R.
+pub fn clothoid(limits: &Limits, radius: i128) -> i128 {
+    let squared = limits.clothoid_parameter_min * limits.clothoid_parameter_min;
+    rounded_up(squared, radius.abs())
+}
+
+/// The radius that a vertical curve between two grades has to reach.
+pub fn vertical_radius(limits: &Limits, before: i128, after: i128) -> i128 {
+    if after > before {
+        limits.sag_radius
+    } else {
+        limits.crest_radius
+    }
+}
+
+/// The least half length between two grades: R x |g2 - g1| / (2 x 10^6).
+pub fn half_length(limits: &Limits, before: i128, after: i128) -> i128 {
+    let radius = vertical_radius(limits, before, after);
+    rounded_up(radius * (after - before).abs(), 2_000_000)
+}
+
+/// The half lengths at the two ends of a tangent together.
+pub fn tangent(alignment: &Alignment, place: usize) -> i128 {
+    let at_start = match place {
+        0 => 0,
+        _ => alignment.tangents[place - 1].half_length,
+    };
+    at_start + alignment.tangents[place].half_length
+}
+
+/// The greater of the two sides' changes between neighbouring points.
+fn change(here: &CrossfallPoint, next: &CrossfallPoint) -> i128 {
+    let left = (next.left - here.left).abs();
+    left.max((next.right - here.right).abs())
+}
+
+/// Lane width x change of crossfall, of the side that changes more.
+pub fn twist(alignment: &Alignment, limits: &Limits, first: usize) -> i128 {
+    let pair = &alignment.points[first..first + 2];
+    limits.lane_width * change(&pair[0], &pair[1])
+}
+
+/// The least distance from a point to the next.
+pub fn distance(alignment: &Alignment, limits: &Limits, first: usize) -> i128 {
+    rounded_up(twist(alignment, limits, first), alignment.ramp_limit)
+}
+
+/// The least ramp limit that allows the distance from a point to the next; none where the next is not beyond.
+pub fn ramp_limit(alignment: &Alignment, limits: &Limits, first: usize) -> Option<i128> {
+    let pair = &alignment.points[first..first + 2];
+    let distance = pair[1].station - pair[0].station;
+    (distance > 0).then(|| rounded_up(twist(alignment, limits, first), distance).max(1))
+}
+
+/// The nearest crossfall in its limits, of the same sign; 0 falls to the edge.
+pub fn crossfall(value: i128) -> i128 {
+    let size = value.abs().clamp(LEAST_CROSSFALL, GREATEST_CROSSFALL);
+    if value > 0 {
+        size
+    } else {
+        -size
+    }
+}
+
+#[cfg(test)]
+mod tests {
+    use super::*;
+    use reference::limits::{limits_at, SPEEDS};
+
+    /// The starred items of document 01, at 40 km/h.
+    #[test]
+    fn starred_items() {
+        let limits = limits_at(40);
+        assert_eq!(clothoid(&limits, 45_000), 27_223);
+        assert_eq!(clothoid(&limits, -45_000), 27_223);
+        assert_eq!(half_length(&limits, 20_000, -20_000), 8_000);
+        let file = include_bytes!("../../../examples/refusal-18.alignment");
+        let road = reference::file::read(file).expect("a file that can be read");
+        assert_eq!(distance(&road, &limits, 0), 27_500);
+        assert_eq!(ramp_limit(&road, &limits, 0), Some(5_001));
+    }
+
+    /// The least keeps its rule and one millimetre less breaks it, at every speed.
+    #[test]
+    fn one_less_breaks_the_rule() {
+        for speed in SPEEDS {
+            let limits = limits_at(speed);
+            let squared = limits.clothoid_parameter_min.pow(2);
+            for radius in [limits.radius_min, 999_983, -1_234_567, 10_000_000] {
+                let least = clothoid(&limits, radius);
+                assert!(least * radius.abs() >= squared);
+                assert!((least - 1) * radius.abs() < squared);
+            }
+            for (before, after) in [(0, 1), (1, 0), (-40_000, 31_003), (40_000, -7)] {
+                let due = vertical_radius(&limits, before, after) * (after - before).abs();
+                let least = half_length(&limits, before, after);
+                assert!(least * 2_000_000 >= due);
+                assert!((least - 1) * 2_000_000 < due);
+            }
+        }
+    }
+
+    #[test]
+    fn nearest_crossfalls() {
+        let values = [-80_000, -24_999, 0, 1, 30_000, 70_001];
+        let nearest = [-70_000, -25_000, -25_000, 25_000, 30_000, 70_000];
+        assert_eq!(values.map(crossfall), nearest);
+    }
+}

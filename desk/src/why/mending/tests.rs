@@ -1,0 +1,205 @@
+//! Mendings of the sample files and of roads made for a case.
+
+use reference::file::{read, Alignment, Kind, Refusal};
+use reference::rules::{judge, judge_all};
+
+use super::{all_mended, mended, Mending, Obstacle};
+
+fn road(file: &[u8]) -> Alignment {
+    read(file).expect("a file that can be read")
+}
+
+fn mountain_road() -> Alignment {
+    road(include_bytes!(
+        "../../../../examples/mountain-access-road.alignment"
+    ))
+}
+
+fn mending(road: &Alignment, number: i128, place: i128) -> Mending {
+    let judgement = judge_all(road);
+    let broken = Refusal { number, place };
+    assert!(judgement.broken.contains(&broken), "{:?}", judgement.broken);
+    mended(road, &judgement, broken)
+}
+
+fn found(road: &Alignment, number: i128, place: i128) -> Alignment {
+    match mending(road, number, place) {
+        Mending::Found(road) => road,
+        Mending::Obstacle(obstacle) => panic!("{obstacle:?}"),
+    }
+}
+
+#[test]
+fn sample_files() {
+    let files: [(&[u8], i128, i128); 13] = [
+        (
+            include_bytes!("../../../../examples/refusal-06.alignment"),
+            6,
+            0,
+        ),
+        (
+            include_bytes!("../../../../examples/refusal-08.alignment"),
+            8,
+            0,
+        ),
+        (
+            include_bytes!("../../../../examples/refusal-09.alignment"),
+            9,
+            4,
+        ),
+        (
+            include_bytes!("../../../../examples/refusal-10.alignment"),
+            10,
+            2,
+        ),
+        (
+            include_bytes!("../../../../examples/refusal-11.alignment"),
+            11,
+            2,
+        ),
+        (
+            include_bytes!("../../../../examples/refusal-12.alignment"),
+            12,
+            1,
+        ),
+        (
+            include_bytes!("../../../../examples/refusal-13.alignment"),
+            13,
+            0,
+        ),
+        (
+            include_bytes!("../../../../examples/refusal-14.alignment"),
+            14,
+            1,
+        ),
+        (
+            include_bytes!("../../../../examples/refusal-15.alignment"),
+            15,
+            0,
+        ),
+        (
+            include_bytes!("../../../../examples/refusal-16.alignment"),
+            16,
+            5,
+        ),
+        (
+            include_bytes!("../../../../examples/refusal-17.alignment"),
+            17,
+            5,
+        ),
+        (
+            include_bytes!("../../../../examples/refusal-18.alignment"),
+            18,
+            0,
+        ),
+        (
+            include_bytes!("../../../../examples/refusal-19.alignment"),
+            19,
+            2,
+        ),
+    ];
+    for (file, number, place) in files {
+        let mended = found(&road(file), number, place);
+        assert!(judge(&mended).is_ok(), "{number}");
+    }
+}
+
+#[test]
+fn points_beyond_a_longer_element_move() {
+    let mut road = mountain_road();
+    road.elements[13].length = 15_312; // one less than A min squared / R asks for
+    for point in &mut road.points[14..] {
+        point.station -= 10_688;
+    }
+    road.tangents[5].length -= 10_688;
+    let mended = found(&road, 12, 13);
+    assert_eq!(mended.elements[13].length, 15_313);
+    assert_eq!(mended.points[13].station, road.points[13].station);
+    assert_eq!(mended.points[14].station, road.points[14].station + 1);
+    assert_eq!(mended.tangents[4].length, road.tangents[4].length + 1);
+    assert!(judge(&mended).is_ok());
+}
+
+#[test]
+fn a_longer_curve_takes_from_the_nearest_tangent_that_can_give() {
+    let mut road = mountain_road();
+    road.tangents[2].grade = -60_000; // the change at vertex 1 asks for more than tangent 2 has room for
+    let mended = found(&road, 15, 1);
+    assert_eq!(mended.tangents[1].half_length, 31_600);
+    assert_eq!(mended.tangents[2].length, 56_600);
+    assert_eq!(mended.tangents[1].length, 128_530);
+}
+
+#[test]
+fn a_longer_ramp_moves_its_first_point_where_the_second_begins_an_arc() {
+    let mut road = mountain_road();
+    road.points[1].station = 90_000;
+    let mended = found(&road, 18, 1);
+    assert_eq!(mended.points[1].station, 95_850 - 15_584);
+    assert_eq!(mended.points[2].station, 95_850);
+}
+
+#[test]
+fn crossfalls_of_an_arc_change_together() {
+    let mut road = mountain_road();
+    for point in &mut road.points[10..12] {
+        (point.left, point.right) = (71_000, -71_000);
+    }
+    let mended = found(&road, 17, 11);
+    let crossfalls = [10, 11].map(|place| (mended.points[place].left, mended.points[place].right));
+    assert_eq!(crossfalls, [(70_000, -70_000); 2]);
+}
+
+#[test]
+fn the_rest_follows_an_element_that_was_changed() {
+    let mut road = mountain_road();
+    road.elements[8].length += 5_000;
+    let mended = found(&road, 6, 0);
+    assert_eq!(mended.points[8].station, road.points[8].station);
+    assert_eq!(mended.points[9].station, road.points[9].station + 5_000);
+    assert!(judge(&mended).is_ok());
+}
+
+#[test]
+fn several_rules_at_once() {
+    let mut road = mountain_road();
+    road.elements[2].radius = 40_000;
+    road.elements[6].length = 20_000;
+    road.tangents[1].grade = 110_000;
+    road.points[4].left = 20_000;
+    road.ramp_limit = 9_000;
+    let (mended, after) = all_mended(&road, &judge_all(&road));
+    assert!(after.broken.is_empty(), "{:?}", after.broken);
+    assert!(judge(&mended).is_ok());
+}
+
+#[test]
+fn elements_that_are_missing() {
+    let mut short = mountain_road();
+    short.elements.truncate(20);
+    let found = mending(&short, 7, 20);
+    assert!(matches!(found, Mending::Obstacle(Obstacle::NoCandidate)));
+    let mut two_wrong = mountain_road();
+    two_wrong.elements[5].kind = Kind::Straight;
+    two_wrong.elements[6].kind = Kind::Straight;
+    let found = mending(&two_wrong, 7, 5);
+    assert!(matches!(found, Mending::Obstacle(Obstacle::NoCandidate)));
+}
+
+/// Both tangents are shorter than the least half length.
+#[test]
+fn no_room_for_a_curve() {
+    let mut crest = road(include_bytes!("../../../../examples/crest.alignment"));
+    crest.elements[0].length = 60_000;
+    crest.points[1].station = 60_000;
+    for (tangent, grade) in crest.tangents.iter_mut().zip([100_000, -100_000]) {
+        (tangent.length, tangent.grade) = (30_000, grade);
+    }
+    crest.tangents[0].half_length = 40_000;
+    let found = mending(&crest, 14, 0);
+    let sum = Refusal {
+        number: 6,
+        place: 0,
+    };
+    assert!(matches!(found, Mending::Obstacle(Obstacle::Breaks(broken)) if broken == sum));
+}

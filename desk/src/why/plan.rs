@@ -1,0 +1,156 @@
+//! The rules of the plan told, 5 and 7 to 12.
+
+use reference::file::Kind;
+use reference::road;
+
+use super::least;
+use super::teller::Teller;
+use crate::rule_book::metres;
+use crate::words::{limits as names, why as words, Phrase};
+
+pub fn told(teller: &Teller, number: i128, place: usize) -> Vec<String> {
+    match number {
+        5 => too_long(teller, place),
+        7 => out_of_order(teller, place),
+        8 => straight_too_long(teller, place),
+        9 => straight_too_short(teller, place),
+        10 => radius(teller, place),
+        11 => arc_too_short(teller, place),
+        _ => clothoid(teller, place),
+    }
+}
+
+fn too_long(teller: &Teller, place: usize) -> Vec<String> {
+    let numbers = [
+        teller.road.elements.len() as i128,
+        teller.road.total_length(),
+    ];
+    let [count, length] = numbers.map(|value| teller.number(value));
+    let stretch = teller.element(place);
+    let most = teller.number(least::LONGEST_PLAN);
+    let now = teller.road.elements[place].length;
+    let passes = match least::element_length(teller.road, &teller.limits, 5, place) {
+        Some(length) => teller.at_most(words::LENGTH, length, now),
+        None => teller.say(words::PASSES_5, &[]),
+    };
+    vec![
+        teller.say(words::NUMBERS_5, &[&stretch, &count, &length]),
+        teller.limit(teller.say(words::LIMIT_5, &[&most])),
+        teller.source(words::SOURCE_NONE),
+        teller.passes(passes),
+    ]
+}
+
+fn kind_name(kind: Kind) -> Phrase {
+    match kind {
+        Kind::Straight => words::STRAIGHT,
+        Kind::Arc => words::ARC_KIND,
+        Kind::Clothoid => words::CLOTHOID,
+    }
+}
+
+fn out_of_order(teller: &Teller, place: usize) -> Vec<String> {
+    let elements = &teller.road.elements;
+    let due = teller.say(kind_name(least::kind_due(place)), &[]);
+    let there = elements[place.min(elements.len() - 1)].kind;
+    let there = teller.say(kind_name(there), &[]);
+    let numbers = match place < elements.len() {
+        true => words::NUMBERS_7,
+        false => words::NUMBERS_7_SHORT,
+    };
+    vec![
+        teller.say(numbers, &[&there, &due]),
+        teller.limit(teller.say(words::LIMIT_7, &[])),
+        teller.source(words::SOURCE_7),
+        teller.passes(teller.say(words::PASSES_7, &[&due])),
+    ]
+}
+
+fn straight_too_long(teller: &Teller, place: usize) -> Vec<String> {
+    let most = teller.limits.straight_max.unwrap_or(0);
+    let now = teller.road.elements[place].length;
+    vec![
+        teller.element(place),
+        teller.limit_at_speed(names::STRAIGHT_MAX, metres(most, teller.language)),
+        teller.source_with_speed(words::SOURCE_8),
+        teller.passes(teller.at_most(words::LENGTH, most, now)),
+    ]
+}
+
+/// An arc's place and radius.
+fn arc(teller: &Teller, place: usize) -> String {
+    let radius = teller.number(teller.road.elements[place].radius);
+    teller.say(words::ARC, &[&place, &radius])
+}
+
+fn straight_too_short(teller: &Teller, place: usize) -> Vec<String> {
+    let least = teller.limits.straight_min.unwrap_or(0);
+    let now = teller.road.elements[place].length;
+    let [before, after] = arcs_around(teller, place);
+    let stretch = teller.element(place);
+    vec![
+        teller.say(words::NUMBERS_9, &[&stretch, &before, &after]),
+        teller.limit_at_speed(names::STRAIGHT_MIN, metres(least, teller.language)),
+        teller.source_with_speed(words::SOURCE_9),
+        teller.passes(teller.at_least(words::LENGTH, least, now)),
+    ]
+}
+
+/// The nearest arcs on both sides of a straight.
+fn arcs_around(teller: &Teller, straight: usize) -> [String; 2] {
+    let elements = &teller.road.elements;
+    let is_arc = |place: &usize| elements[*place].kind == Kind::Arc;
+    let before = (0..straight).rev().find(is_arc);
+    let after = (straight..elements.len()).find(is_arc);
+    [before, after].map(|place| place.map_or(String::new(), |place| arc(teller, place)))
+}
+
+fn radius(teller: &Teller, place: usize) -> Vec<String> {
+    let least = teller.limits.radius_min;
+    let radius = teller.road.elements[place].radius;
+    let turn = match radius > 0 {
+        true => words::RIGHT_TURN,
+        false => words::LEFT_TURN,
+    };
+    let (turn, stretch) = (teller.say(turn, &[]), teller.element(place));
+    let number = teller.number(radius.abs());
+    vec![
+        teller.say(words::NUMBERS_10, &[&number, &turn, &stretch]),
+        teller.limit_at_speed(names::RADIUS_MIN, metres(least, teller.language)),
+        teller.source_with_speed(words::SOURCE_10),
+        teller.passes(teller.at_least(words::RADIUS, least, radius.abs())),
+    ]
+}
+
+fn arc_too_short(teller: &Teller, place: usize) -> Vec<String> {
+    let least = teller.limits.arc_min;
+    let now = teller.road.elements[place].length;
+    vec![
+        teller.element(place),
+        teller.limit_at_speed(names::ARC_MIN, metres(least, teller.language)),
+        teller.source_with_speed(words::SOURCE_11),
+        teller.passes(teller.at_least(words::LENGTH, least, now)),
+    ]
+}
+
+fn clothoid(teller: &Teller, place: usize) -> Vec<String> {
+    let parameter = teller.limits.clothoid_parameter_min;
+    let length = teller.road.elements[place].length;
+    let radius = road::arc_of_clothoid(teller.road, place).radius;
+    let arc_place = match teller.road.elements.get(place + 1) {
+        Some(next) if next.kind == Kind::Arc => place + 1,
+        _ => place - 1,
+    };
+    let (stretch, arc) = (teller.element(place), arc(teller, arc_place));
+    let product = teller.number(length * radius.abs());
+    let limit = teller.limit_at_speed(names::CLOTHOID_MIN, metres(parameter, teller.language));
+    let squared = teller.number(parameter * parameter);
+    let least = least::clothoid(&teller.limits, radius);
+    let passes = [least, least - length].map(|value| teller.number(value));
+    vec![
+        teller.say(words::NUMBERS_12, &[&stretch, &arc, &product]),
+        teller.say(words::LIMIT_12, &[&limit, &squared]),
+        teller.source_with_speed(words::SOURCE_12),
+        teller.passes(teller.say(words::PASSES_12, &[&passes[0], &passes[1]])),
+    ]
+}
