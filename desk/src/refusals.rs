@@ -1,0 +1,52 @@
+//! A refusal in words: its rule, and what its place counts.
+
+use std::ffi::OsStr;
+
+use crate::language::Language;
+use crate::names::shown;
+use crate::words::{common, rules, Phrase};
+
+/// What the place of a refusal of the file counts; none where the place says nothing.
+pub fn counted(number: u32) -> Option<Phrase> {
+    match number {
+        1..=4 => Some(common::BYTE),
+        5 | 7..=12 | 19 => Some(common::ELEMENT),
+        13 | 14 => Some(common::TANGENT),
+        15 => Some(common::VERTEX),
+        16..=18 => Some(common::POINT),
+        _ => None,
+    }
+}
+
+/// The rule that a refusal of the file speaks of, in a short clause.
+pub fn rule_name(number: u32) -> Option<Phrase> {
+    let name = format!("RULE_{number}");
+    let found = rules::ALL.iter().find(|(known, _)| *known == name);
+    found.map(|(_, phrase)| *phrase)
+}
+
+/// One line about a refused file.
+pub fn words(name: &OsStr, refusal: proved::Refusal, language: Language) -> String {
+    let (name, number) = (shown(name, language), refusal.number());
+    let rule = rule_name(number).map_or(String::new(), |rule| language.say(rule, &[]));
+    match counted(number) {
+        None => language.say(common::REFUSED_NO_PLACE, &[&name, &number, &rule]),
+        Some(item) => {
+            let item = language.say(item, &[]);
+            let place = refusal.place();
+            language.say(common::REFUSED, &[&name, &number, &rule, &item, &place])
+        }
+    }
+}
+
+#[cfg(test)]
+mod tests {
+    use super::*;
+
+    #[test]
+    fn each_rule_by_its_number() {
+        assert!((1..=19).all(|number| rule_name(number).is_some()));
+        assert_eq!(rule_name(12), Some(rules::RULE_12));
+        assert_eq!((rule_name(0), rule_name(20)), (None, None));
+    }
+}
