@@ -1,4 +1,5 @@
 pub mod Reading
+pub mod Refused
 pub mod Number
 pub mod Meaning
 pub mod Answer

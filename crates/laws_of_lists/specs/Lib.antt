@@ -1,2 +1,3 @@
 pub mod All
 pub mod Tests
+pub mod Each
