@@ -1,21 +1,16 @@
--- What the rules say of an accepted road, as numbers.
+-- What the rules say of a road that keeps them, as numbers, whatever their limits.
 use mathlib.Core.Path.{_≡_, refl, sym, ap, _∙_}
 use mathlib.Core.List.{[], List, _∷_, _++_}
 use Prim.Native.Nat.{ℕ, suc, _+_, _-_, _≤_, _<_}
 use native.Mathlib.Omega.{arith}
 use lib.ListN.{length, take}
 use lib.Seq.{take-suc}
-use borrow.Author.Tests.{eqb-true, ltb-false, not-false}
 use lib.IntN.{ℤ, pos, _+ℤ_, _*ℤ_, +ℤ-assoc, +ℤ-idl, +ℤ-idr}
 use Rattle.road.specs.Base.{sumOf}
 use Rattle.road.specs.File.{Road}
-use Rattle.road.specs.Exact.{blankTangent, tangentOf, pointOf, elementStart, tangentStart, total, vertexCount, vertex, halfLength, rise}
-use Rattle.road.specs.Rules.{otherTotal, halfBefore}
+use Rattle.road.specs.Exact.{blankTangent, tangentOf, pointOf, elementStart, tangentStart, total, vertexCount, vertex, halfLength, rise, halfBefore}
 use Rattle.laws_of_acceptance.specs.Lists.{element-step, tangent-step}
-use Rattle.laws_of_acceptance.specs.Positive.{Accepted, points-ordered}
 use Rattle.road.specs.declared.Tangent.{Tangent}
-use Rattle.road.specs.declared.Rule.the-variants as rule
-use Rattle.road.specs.declared.TangentRule.the-variants as tangent
 use Rattle.laws_of_search.specs.Last.{Rising, rises-to}
 
 -- ---- where tangents and elements begin
@@ -48,22 +43,6 @@ pub record Facts (r : Road) : Type 0 where
   pub first : pointOf r 0 .station ≡ 0
   pub ascend : (i : ℕ) → suc i < length (r .crossfalls) → pointOf r i .station < pointOf r (suc i) .station
   pub last : (i : ℕ) → suc i ≡ length (r .crossfalls) → pointOf r i .station ≡ total r
-
--- rules 6, 14 and 16
-pub facts : {r : Road} → Accepted r → Facts r
-unfolding otherTotal
-facts a =
-    let one = a .ranges .profile .tangents .count .low in
-    let P = points-ordered a in
-    record {
-      tangents = omega arith;
-      points = a .ranges .points .count .low;
-      whole = eqb-true _ _ (not-false _ (a .kept rule.OtherTotal 0 (omega arith)));
-      room = λ i h. ltb-false _ _ (a .kept (rule.Tangent tangent.ShortTangent) i h);
-      first = P .first;
-      ascend = P .ascend;
-      last = P .last;
-    }
 
 -- two points or more, in the order of rule 16
 pub record Placed (r : Road) : Type 0 where

@@ -8,17 +8,17 @@ use lib.ListN.{length}
 use lib.IntN.{natAbs}
 use Rattle.file_numbers.specs.Reading.{got}
 use Rattle.road.specs.File.{Road}
-use Rattle.road.specs.Exact.{blankElement, elementOf, tangentOf, pointOf, isArc, elementStart, tangentStart, total, vertexCount, vertex, halfLength, Side, crossfallOf, laneWidth}
+use Rattle.road.specs.Exact.{elementOf, tangentOf, pointOf, isArc, elementStart, tangentStart, total, vertexCount, vertex, halfLength, Side, crossfallOf}
+use Rattle.road.specs.Lane.{laneWidth}
 use Rattle.road.specs.Rules.{accepted}
 use Rattle.laws_of_acceptance.specs.PlanOrder.{PlanOrder}
 use Rattle.laws_of_acceptance.specs.Ranged.{Within}
-use Rattle.laws_of_acceptance.specs.Positive.{Accepted, accepted-road, plan-ordered}
+use Rattle.laws_of_acceptance.specs.Positive.{Accepted, accepted-road, plan-ordered, facts}
 use Rattle.laws_of_acceptance.specs.Table.{lane-range}
-use Rattle.laws_of_acceptance.specs.Facts.{Facts, facts, Level, points-inside, curve-begins, curve-ends}
-use Rattle.laws_of_lists.specs.All.{all-at}
+use Rattle.laws_of_acceptance.specs.Facts.{Facts, Level, points-inside, curve-begins, curve-ends}
 use Rattle.laws_of_acceptance.specs.Ranges.{element-in, tangent-in, crossfall-in, total-small, total-positive, element-inside, tangent-inside, level}
 use Rattle.laws_of_acceptance.specs.Refusals.{accepted-iff}
-use Rattle.laws_of_acceptance.specs.ReadRanges.{RadiusRange, StartRange, ReadRange, read-ranges}
+use Rattle.laws_of_acceptance.specs.ReadRanges.{StartRange, ReadRange, read-ranges}
 
 pub record Guaranteed (r : Road) : Type 0 where
   -- in range, and no rule broken
@@ -63,7 +63,6 @@ pub record Guaranteed (r : Road) : Type 0 where
 both : {r : Road} → Accepted r → ReadRange r → Guaranteed r
 both {r} A R =
     let F = facts A in
-    let radii : (i : ℕ) → i < length (r .plan) → RadiusRange (elementOf r i) = λ i h. all-at blankElement i (R .radii) h in
     record {
       accepted-as = A;
       facts-of = F;
@@ -78,7 +77,7 @@ both {r} A R =
       whole = record { low = total-positive A; high = total-small A };
       plan-order = plan-ordered A;
       element-length = λ i h. element-in A i h .length;
-      radius = λ i h. radii i h .arc;
+      radius = λ i h. element-in A i h .radius .arc;
       element-start = element-inside A;
       start = R .start;
       start-size = A .ranges .profile .start;

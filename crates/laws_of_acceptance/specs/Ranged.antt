@@ -11,10 +11,15 @@ use Rattle.file_numbers.specs.Reading.{Got, got, refused, andThen, Reading}
 use Rattle.file_numbers.specs.Reading.{many}
 use Rattle.laws_of_lists.specs.All.{All, none, more}
 use Rattle.road.specs.Base.{if_then_else_}
-use Rattle.laws_of_lists.specs.Tests.{and-T}
+use Rattle.laws_of_lists.specs.Tests.{and-T, true-false}
+use Rattle.road.specs.Exact.{isArc}
+use Rattle.file_numbers.specs.Refused.{refused-not-got}
 use Rattle.file_numbers.specs.Number.{number}
-use Rattle.road.specs.File.{Road, inRange, field, signed, between, radius, element, half, tangent, point, headFields, planFields, Profile, profileFields, crossfallFields, roadOf, fields, ended, read}
+use Rattle.days.specs.Day.{isDay}
+use Rattle.road.specs.File.{Road, fitting, field, date, numberIs, datedFields, contractFields, signed, between, inSize, radius, element, half, tangent, point, headFields, planFields, Profile, profileFields, crossfallFields, roadOf, fields, ended, read}
 use Rattle.file_numbers.specs.Number.{signedOf}
+use Rattle.road.specs.declared.Contract.{Contract}
+use Rattle.road.specs.declared.Contract.the-variants.{Undated, Dated}
 use Rattle.road.specs.declared.Head.{Head}
 use Rattle.road.specs.declared.Element.{Element}
 use Rattle.road.specs.declared.Tangent.{Tangent}
@@ -27,18 +32,15 @@ pub record Went {A B : Type 0} (m : Got A) (f : A → ℕ → Got B) (b : B) (la
   pub first : m ≡ got value next
   pub rest : f value next ≡ got b last
 
-pub refused-not-got : {A : Type 0} {k p next : ℕ} {a : A} → refused k p ≡ got a next → ⊥
-refused-not-got e = let z : _≡_ {A = ℕ} 0 1 = cc in omega arith
-
 pub went : {A B : Type 0} (m : Got A) (f : A → ℕ → Got B) {b : B} {last : ℕ} → andThen m f ≡ got b last → Went m f b last
 went (got a next) f e = record { value = a; next = next; first = refl; rest = e }
 went (refused k p) f e = absurd (refused-not-got e)
 
-in-range : {A : Type 0} (fits : A → Bool) (a : A) (at : ℕ) (s : List ℕ) (next : ℕ) {b : A} {last : ℕ} → inRange fits a at s next ≡ got b last → T (fits b)
-unfolding inRange
-in-range fits a at s next {b} {last} e = go (fits a) refl e
+fits-read : {A : Type 0} (refusal : ℕ) (fits : A → Bool) (a : A) (at : ℕ) (s : List ℕ) (next : ℕ) {b : A} {last : ℕ} → fitting refusal fits a at s next ≡ got b last → T (fits b)
+unfolding fitting
+fits-read refusal fits a at s next {b} {last} e = go (fits a) refl e
   where
-    go : (c : Bool) → fits a ≡ c → (if c then got a next else refused 3 at) ≡ got b last → T (fits b)
+    go : (c : Bool) → fits a ≡ c → (if c then got a next else refused refusal at) ≡ got b last → T (fits b)
     go true p e = let q : a ≡ b = cc in subst T (sym (ap fits (sym q) ∙ p)) tt
     go false p e = absurd (refused-not-got e)
 
@@ -50,12 +52,12 @@ pub field-within : (low high : ℕ) (s : List ℕ) (at : ℕ) {v next : ℕ} →
 unfolding field
 field-within low high s at {v} e =
     let w = went (number s at) _ e in
-    let t = and-T (leb low v) (leb v high) (in-range (λ (n : ℕ). leb low n && leb n high) (w .value) at s (w .next) (w .rest)) in
+    let t = and-T (leb low v) (leb v high) (fits-read 3 (λ (n : ℕ). leb low n && leb n high) (w .value) at s (w .next) (w .rest)) in
     record { low = leb→le low v (t .0); high = leb→le v high (t .1) }
 
 pub signed-fits : (fits : ℤ → Bool) (s : List ℕ) (at : ℕ) {v : ℤ} {next : ℕ} → signed fits s at ≡ got v next → T (fits v)
 unfolding signed
-signed-fits fits s at e = let w = went (number s at) _ e in in-range fits (signedOf (w .value)) at s (w .next) (w .rest)
+signed-fits fits s at e = let w = went (number s at) _ e in fits-read 3 fits (signedOf (w .value)) at s (w .next) (w .rest)
 
 -- ---- the three lists
 
@@ -75,9 +77,25 @@ many-items P one law (suc n) s at {l} e =
     let q : w .value ∷ v .value ≡ l = cc in
     subst (Items P (suc n)) q (record { count = ap suc (ih .count); each = more (law n s at (w .value) (w .next) (w .first)) (ih .each) })
 
+-- "for an arc a signed radius, 10,000 to 10,000,000 in size"; of what is no arc it is 0
+pub record RadiusRange (e : Element) : Type 0 where
+  pub arc : isArc e ≡ true → Within 10000 10000000 (natAbs (e .radius))
+  pub other : isArc e ≡ false → e .radius ≡ pos 0
+
+arc-radius : (b : Bool) (s : List ℕ) (at : ℕ) {v : ℤ} {next : ℕ} → radius b s at ≡ got v next → b ≡ true → Within 10000 10000000 (natAbs v)
+arc-radius true s at {v} e q =
+    let t = and-T (leb 10000 (natAbs v)) (leb (natAbs v) 10000000) (signed-fits (inSize 10000 10000000) s at e) in
+    record { low = leb→le 10000 (natAbs v) (t .0); high = leb→le (natAbs v) 10000000 (t .1) }
+arc-radius false s at e q = absurd (true-false false q refl)
+
+other-radius : (b : Bool) (s : List ℕ) (at : ℕ) {v : ℤ} {next : ℕ} → radius b s at ≡ got v next → b ≡ false → v ≡ pos 0
+other-radius true s at e q = absurd (true-false true refl q)
+other-radius false s at e q = cc
+
 pub record ElementRange (e : Element) : Type 0 where
   pub kind : Within 0 2 (e .kind)
   pub length : Within 1 10_000_000 (e .length)
+  pub radius : RadiusRange e
 
 pub element-range : (s : List ℕ) (at : ℕ) {e : Element} {next : ℕ} → element s at ≡ got e next → ElementRange e
 unfolding element
@@ -87,7 +105,7 @@ element-range s at {e} h =
     let c = went (radius (eqb (a .value) 1) s (b .next)) _ (b .rest) in
     let f = c .rest in
     let q : record { kind = a .value; length = b .value; radius = c .value } ≡ e = cc in
-    subst ElementRange q (record { kind = field-within 0 2 s at (a .first); length = field-within 1 10_000_000 s (a .next) (b .first) })
+    subst ElementRange q (record { kind = field-within 0 2 s at (a .first); length = field-within 1 10_000_000 s (a .next) (b .first); radius = record { arc = arc-radius (eqb (a .value) 1) s (b .next) (c .first); other = other-radius (eqb (a .value) 1) s (b .next) (c .first) } })
 
 -- from low to high, as the tests of the reader have it
 abs-between : (n m : ℕ) (v : ℤ) → T (between (negsuc n) (pos m) v) → suc n ≤ m → natAbs v ≤ m
@@ -143,7 +161,33 @@ on : {A B C : Type 0} (m : Got A) (f : A → ℕ → Got B) {b : B} {last : ℕ}
 on (got a next) f e k = k a next refl e
 on (refused n p) f e k = absurd (refused-not-got e)
 
+-- the date of a contract is a day
+abbrev pub ContractRange : Contract → Type 0
+ContractRange Undated = Unit {0}
+ContractRange (Dated day) = T (isDay day)
+
+date-read : (s : List ℕ) (at : ℕ) {v next : ℕ} → date s at ≡ got v next → T (isDay v)
+unfolding date
+date-read s at e = let w = went (number s at) _ e in fits-read 22 isDay (w .value) at s (w .next) (w .rest)
+
+dated-range : (s : List ℕ) (at : ℕ) {c : Contract} {next : ℕ} → datedFields s at ≡ got c next → ContractRange c
+unfolding datedFields
+dated-range s at {c} e =
+    on (number s at) _ e λ layout a ea h1.
+    on (date s a) _ h1 λ day b eb h2.
+    let same : Dated day ≡ c = cc in
+    subst ContractRange same (date-read s a eb)
+
+contract-range : (s : List ℕ) (at : ℕ) {c : Contract} {next : ℕ} → contractFields s at ≡ got c next → ContractRange c
+unfolding contractFields
+contract-range s at {c} {next} e = go (numberIs 9 s at) e
+  where
+    go : (b : Bool) → (elim b [ true ↦ datedFields s at | false ↦ got Undated at ]) ≡ got c next → ContractRange c
+    go true h = dated-range s at h
+    go false h = let same : Undated ≡ c = cc in subst ContractRange same tt
+
 pub record HeadRange (h : Head) : Type 0 where
+  pub contract : ContractRange (h .contract)
   pub class : Within 1 4 (h .class)
   pub terrain : Within 1 3 (h .terrain)
   pub step : Within 1000 100_000 (h .step)
@@ -152,12 +196,13 @@ pub record HeadRange (h : Head) : Type 0 where
 head-range : (s : List ℕ) (at : ℕ) (h : Head) (next : ℕ) → headFields s at ≡ got h next → HeadRange h
 unfolding headFields
 head-range s at h next e =
-    on (field 1 4 s at) _ e λ class a ea h1.
+    on (contractFields s at) _ e λ contract z ez h0.
+    on (field 1 4 s z) _ h0 λ class a ea h1.
     on (field 1 3 s a) _ h1 λ terrain b eb h2.
     on (field 1000 100_000 s b) _ h2 λ step c ec h3.
     on (field 1 20_000 s c) _ h3 λ ramp d ed h4.
-    let same : record { class = class; terrain = terrain; step = step; ramp = ramp } ≡ h = cc in
-    subst HeadRange same (record { class = field-within 1 4 s at ea; terrain = field-within 1 3 s a eb; step = field-within 1000 100_000 s b ec; ramp = field-within 1 20_000 s c ed })
+    let same : record { contract = contract; class = class; terrain = terrain; step = step; ramp = ramp } ≡ h = cc in
+    subst HeadRange same (record { contract = contract-range s at ez; class = field-within 1 4 s z ea; terrain = field-within 1 3 s a eb; step = field-within 1000 100_000 s b ec; ramp = field-within 1 20_000 s c ed })
 
 -- a count in its range, and as many items
 pub record Counted {A : Type 0} (P : A → Type 0) (low high : ℕ) (l : List A) : Type 0 where

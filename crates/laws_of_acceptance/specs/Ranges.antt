@@ -19,11 +19,11 @@ use Rattle.road.specs.declared.ElementRule.the-variants as element
 use Rattle.road.specs.declared.TangentRule.the-variants as tangent
 use Rattle.laws_of_lists.specs.All.{all-at}
 use Rattle.laws_of_acceptance.specs.Ranged.{ElementRange, TangentRange, PointRange}
-use Rattle.laws_of_acceptance.specs.Positive.{Accepted}
+use Rattle.laws_of_acceptance.specs.Positive.{Accepted, facts}
 use Rattle.laws_of_acceptance.specs.Lists.{element-step}
 use Rattle.laws_of_acceptance.specs.Table.{limits-sound}
 use Rattle.laws_of_search.specs.Last.{rises-to}
-use Rattle.laws_of_acceptance.specs.Facts.{facts, Level, starts-rise, elements-rise}
+use Rattle.laws_of_acceptance.specs.Facts.{Level, starts-rise, elements-rise}
 
 module _ {r : Road} (A : Accepted r) where
   pub element-in : (i : ℕ) → i < length (r .plan) → ElementRange (elementOf r i)

@@ -1,47 +1,21 @@
--- What reading a road says beyond its ranges: the radius of an element, the start height's two ends, and no half length after the last tangent.
-use mathlib.Core.Path.{_≡_, refl, sym, ap, _∙_, subst}
+-- What reading a road says beyond its ranges: the start height's two ends, and no half length after the last tangent.
+use mathlib.Core.Path.{_≡_, sym, ap, _∙_, subst}
 use mathlib.Core.Bool.{Bool, true, false}
 use mathlib.Core.List.{List, [], _∷_}
 use Prim.Native.Nat.{ℕ, zero, suc, _-_}
 use native.Mathlib.Omega.{arith}
 use lib.ListN.{length, getD}
-use lib.Dec.{leb, ltb, eqb, leb→le}
-use lib.IntN.{ℤ, pos, negsuc, natAbs}
+use lib.Dec.{ltb}
+use lib.IntN.{ℤ, pos, negsuc}
 use lib.Signed.{_≤ℤ_, leZ}
 use Rattle.file_numbers.specs.Reading.{got, refused, andThen, many}
 use Rattle.road.specs.Base.{if_then_else_}
-use Rattle.road.specs.File.{Road, Profile, field, signed, between, inSize, radius, element, tangent, headFields, planFields, profileFields, crossfallFields, roadOf, fields, ended, read}
-use Rattle.road.specs.Exact.{blankTangent, isArc}
-use Rattle.laws_of_lists.specs.All.{All}
-use Rattle.laws_of_acceptance.specs.Ranged.{went, refused-not-got, field-within, signed-fits, Within, many-items, TangentRange, tangent-range}
-use Rattle.road.specs.declared.Element.{Element}
+use Rattle.road.specs.File.{Road, Profile, field, signed, between, tangent, headFields, planFields, profileFields, crossfallFields, roadOf, fields, ended, read}
+use Rattle.road.specs.Exact.{blankTangent}
+use Rattle.laws_of_acceptance.specs.Ranged.{went, field-within, signed-fits, many-items, TangentRange, tangent-range}
+use Rattle.file_numbers.specs.Refused.{refused-not-got}
 use Rattle.road.specs.declared.Tangent.{Tangent}
-use Rattle.laws_of_lists.specs.Tests.{and-T, true-false}
-
--- "for an arc a signed radius, 10,000 to 10,000,000 in size"; of what is no arc it is 0
-pub record RadiusRange (e : Element) : Type 0 where
-  pub arc : isArc e ≡ true → Within 10000 10000000 (natAbs (e .radius))
-  pub other : isArc e ≡ false → e .radius ≡ pos 0
-
-arc-radius : (b : Bool) (s : List ℕ) (at : ℕ) {v : ℤ} {next : ℕ} → radius b s at ≡ got v next → b ≡ true → Within 10000 10000000 (natAbs v)
-arc-radius true s at {v} e q =
-    let t = and-T (leb 10000 (natAbs v)) (leb (natAbs v) 10000000) (signed-fits (inSize 10000 10000000) s at e) in
-    record { low = leb→le 10000 (natAbs v) (t .0); high = leb→le (natAbs v) 10000000 (t .1) }
-arc-radius false s at e q = absurd (true-false false q refl)
-
-other-radius : (b : Bool) (s : List ℕ) (at : ℕ) {v : ℤ} {next : ℕ} → radius b s at ≡ got v next → b ≡ false → v ≡ pos 0
-other-radius true s at e q = absurd (true-false true refl q)
-other-radius false s at e q = cc
-
-element-radius : (s : List ℕ) (at : ℕ) (e : Element) (next : ℕ) → element s at ≡ got e next → RadiusRange e
-unfolding element
-element-radius s at e next h =
-    let a = went (field 0 2 s at) _ h in
-    let b = went (field 1 10000000 s (a .next)) _ (a .rest) in
-    let c = went (radius (eqb (a .value) 1) s (b .next)) _ (b .rest) in
-    let f = c .rest in
-    let q : record { kind = a .value; length = b .value; radius = c .value } ≡ e = cc in
-    subst RadiusRange q (record { arc = arc-radius (eqb (a .value) 1) s (b .next) (c .first); other = other-radius (eqb (a .value) 1) s (b .next) (c .first) })
+use Rattle.laws_of_lists.specs.Tests.{and-T}
 
 -- "signed start height −500,000 to 3,000,000"
 pub record StartRange (start : ℤ) : Type 0 where
@@ -77,12 +51,6 @@ tangents-last (suc n) s at {l} e =
     let q : w .value ∷ v .value ≡ l = cc in
     subst (λ (x : List Tangent). getD x (suc n) blankTangent .half ≡ 0) q (tangents-last n s (w .next) (v .first))
 
-plan-radii : (s : List ℕ) (at : ℕ) (l : List Element) (next : ℕ) → planFields s at ≡ got l next → All RadiusRange l
-unfolding planFields
-plan-radii s at l next e =
-    let a = went (field 1 200 s at) _ e in
-    many-items RadiusRange (λ _. element) (λ _ s at x n w. element-radius s at x n w) (a .value) s (a .next) (a .rest) .each
-
 -- what is known of a profile that was read
 record ProfileRead (p : Profile) : Type 0 where
   start : StartRange (p .start)
@@ -109,7 +77,6 @@ profile-read s at p next e =
 
 -- what is known of a road that was read
 pub record ReadRange (r : Road) : Type 0 where
-  pub radii : All RadiusRange (r .plan)
   pub start : StartRange (r .start)
   pub last-half : getD (r .tangents) (length (r .tangents) - 1) blankTangent .half ≡ 0
 
@@ -123,7 +90,7 @@ fields-read s at r next e =
     let f = d .rest in
     let same : roadOf (a .value) (b .value) (c .value) (d .value) ≡ r = cc in
     let p = profile-read s (b .next) (c .value) (c .next) (c .first) in
-    subst ReadRange same (record { radii = plan-radii s (a .next) (b .value) (b .next) (b .first); start = p .start; last-half = p .last })
+    subst ReadRange same (record { start = p .start; last-half = p .last })
 
 -- a file that is read has its fields, and nothing behind them
 pub read-fields : (s : List ℕ) (r : Road) (next : ℕ) → read s ≡ got r next → fields s 0 ≡ got r next

@@ -12,15 +12,20 @@ use lib.IntN.{ℤ, pos, negsuc}
 use Rattle.file_numbers.specs.Reading.{Got, got, refused, andThen, Reading, _>>=_, give, many}
 use Rattle.file_numbers.specs.Number.{Groups, groups, sound, checkedFrom, numberFrom, number, signedOf}
 use Rattle.road.specs.Base.{if_then_else_}
-use Rattle.road.specs.File.{Road, inRange, field, signed, between, inSize, radius, element, half, tangent, point, headFields, planFields, profileFields, crossfallFields, fields, ended, read}
+use Rattle.road.specs.File.{Road, fitting, field, date, numberIs, datedFields, contractFields, signed, between, inSize, radius, element, half, tangent, point, headFields, planFields, profileFields, crossfallFields, fields, ended, read}
+use Rattle.days.specs.Day.{isDay}
 use Rattle.road.specs.Limits.{Limits, limits}
 use Rattle.road.specs.Rules.{Verdict, passes, breaks, roadTest, order, judged, under, accepted}
 use Rattle.laws_of_acceptance.specs.Judging.{Keeps, ruleAt, Broken, passes-kept, kept-passes, kept-by-name, judge-broken, broken-judge}
+use Rattle.laws_of_lists.specs.Tests.{and-T}
+use Rattle.road.specs.declared.Contract.{Contract}
+use Rattle.road.specs.declared.Contract.the-variants.{Undated}
 use Rattle.road.specs.declared.Rule.{Rule}
 use Rattle.road.specs.declared.Rule.the-variants as rule
 use Rattle.road.specs.declared.ElementRule.the-variants as element
-use Rattle.laws_of_acceptance.specs.Ranged.{went, refused-not-got, Within}
-use Rattle.laws_of_acceptance.specs.Table.{each-below}
+use Rattle.laws_of_acceptance.specs.Ranged.{went, Within}
+use Rattle.file_numbers.specs.Refused.{refused-not-got}
+use Rattle.laws_of_lists.specs.Each.{each-below}
 
 -- ---- the rules
 -- the first rule of the order that some item breaks, with its first such item; every rule before it is kept
@@ -28,11 +33,12 @@ pub judged-iff : (l : Limits) (r : Road) (n p : ℕ) → (judged l r ≡ breaks 
 unfolding judged
 judged-iff l r n p = (judge-broken l r order n p, broken-judge l r order n p)
 
--- its number is 5 or above
-pub rule-number : (l : Limits) (r : Road) {n p : ℕ} → Broken order l r n p → 5 ≤ n
+-- its number is from 5 to 19
+pub rule-number : (l : Limits) (r : Road) {n p : ℕ} → Broken order l r n p → Within 5 19 n
 rule-number l r b =
-    let low : 5 ≤ roadTest (ruleAt order (b .place)) .number = leb→le 5 _ (each-below (λ x. leb 5 (roadTest x .number)) (rule.Element element.PlanLength) order tt (b .place) (b .within)) in
-    omega (arith, b .number)
+    let n : ℕ = roadTest (ruleAt order (b .place)) .number in
+    let t = and-T (leb 5 n) (leb n 19) (each-below (λ x. leb 5 (roadTest x .number) && leb (roadTest x .number) 19) (rule.Element element.PlanLength) order tt (b .place) (b .within)) in
+    subst (Within 5 19) (b .number) (record { low = leb→le 5 n (t .0); high = leb→le n 19 (t .1) })
 
 -- ---- the file
 pub accepted-iff : (f : List ℕ) (r : Road) (end : ℕ) → (accepted f ≡ got r end) ↔ ((read f ≡ got r end) × ((rule : Rule) → Keeps rule (limits r) r))
@@ -83,18 +89,21 @@ refused-iff f n p = (there, back)
         ap (λ (g : Got Road). andThen g λ r at. under (judged (limits r) r) r at) (b .reads)
         ∙ ap (λ (v : Verdict). under v (b .road) (b .end)) (judged-iff (limits (b .road)) (b .road) n p .1 (b .lowest))
 
--- ---- "The reading refusals are 1 to 4"
--- what is refused at most in a range of numbers
+-- ---- "The reading refusals are 1 to 4", and 22 at the date
+-- in a range of numbers, or the date's 22
+abbrev pub WithinOrDate : (low high n : ℕ) → Type 0
+WithinOrDate low high n = Within low high n ⊎ (n ≡ 22)
+
 abbrev Refuses : {A : Type 0} → (low high : ℕ) → Got A → Type 0
 Refuses low high (got a next) = Unit {0}
-Refuses low high (refused n p) = Within low high n
+Refuses low high (refused n p) = WithinOrDate low high n
 
--- a faulty number gives 2 or 3
+-- a faulty number gives 2 or 3, or 22
 record Faulty {A : Type 0} (m : Reading A) : Type 0 where
   at-most : (s : List ℕ) (at : ℕ) → Refuses 2 3 (m s at)
 
-only : {low high : ℕ} (n : ℕ) → low ≤ n → n ≤ high → Within low high n
-only n l h = record { low = l; high = h }
+only : {low high : ℕ} (n : ℕ) → low ≤ n → n ≤ high → WithinOrDate low high n
+only n l h = inl (record { low = l; high = h })
 
 faulty-after : {A B : Type 0} (m : Got A) (f : A → ℕ → Got B) → Refuses 2 3 m → ((a : A) (next : ℕ) → Refuses 2 3 (f a next)) → Refuses 2 3 (andThen m f)
 faulty-after (got a next) f h k = k a next
@@ -118,13 +127,28 @@ faulty-number = record { at-most = λ s at. go at (groups (drop at s)) }
     go at none = only 2 (omega arith) (omega arith)
     go at (some g) = checked at g (sound g)
 
-faulty-range : {A : Type 0} (fits : A → Bool) (a : A) (at : ℕ) (s : List ℕ) (next : ℕ) → Refuses 2 3 (inRange fits a at s next)
-unfolding inRange
-faulty-range fits a at s next = go (fits a)
+faulty-fitting : {A : Type 0} (refusal : ℕ) → WithinOrDate 2 3 refusal → (fits : A → Bool) (a : A) (at : ℕ) (s : List ℕ) (next : ℕ) → Refuses 2 3 (fitting refusal fits a at s next)
+unfolding fitting
+faulty-fitting refusal known fits a at s next = go (fits a)
   where
-    go : (b : Bool) → Refuses 2 3 (if b then got a next else refused 3 at)
+    go : (b : Bool) → Refuses 2 3 (if b then got a next else refused refusal at)
     go true = tt
-    go false = only 3 (omega arith) (omega arith)
+    go false = known
+
+faulty-range : {A : Type 0} (fits : A → Bool) (a : A) (at : ℕ) (s : List ℕ) (next : ℕ) → Refuses 2 3 (fitting 3 fits a at s next)
+faulty-range = faulty-fitting 3 (only 3 (omega arith) (omega arith))
+
+faulty-date : Faulty date
+unfolding date
+faulty-date = record { at-most = λ s at. faulty-after (number s at) _ (faulty-number .at-most s at) (λ v next. faulty-fitting 22 (inr refl) isDay v at s next) }
+
+faulty-contract : Faulty contractFields
+unfolding contractFields datedFields
+faulty-contract = record { at-most = λ s at. go s at (numberIs 9 s at) }
+  where
+    go : (s : List ℕ) (at : ℕ) (b : Bool) → Refuses {A = Contract} 2 3 (elim b [ true ↦ datedFields s at | false ↦ got Undated at ])
+    go s at true = faulty-bind faulty-number (λ layout. faulty-bind faulty-date (λ day. faulty-give)) .at-most s at
+    go s at false = tt
 
 faulty-field : (low high : ℕ) → Faulty (field low high)
 unfolding field
@@ -150,7 +174,7 @@ faulty-half (suc k) = faulty-field 0 1000000
 faulty-fields : Faulty fields
 unfolding fields headFields planFields profileFields crossfallFields element tangent point
 faulty-fields =
-    faulty-bind (faulty-bind (faulty-field 1 4) (λ a. faulty-bind (faulty-field 1 3) (λ b. faulty-bind (faulty-field 1000 100000) (λ c. faulty-bind (faulty-field 1 20000) (λ d. faulty-give)))))
+    faulty-bind (faulty-bind faulty-contract (λ z. faulty-bind (faulty-field 1 4) (λ a. faulty-bind (faulty-field 1 3) (λ b. faulty-bind (faulty-field 1000 100000) (λ c. faulty-bind (faulty-field 1 20000) (λ d. faulty-give))))))
     (λ head. faulty-bind (faulty-bind (faulty-field 1 200) (faulty-many (λ _. faulty-bind (faulty-field 0 2) (λ a. faulty-bind (faulty-field 1 10000000) (λ b. faulty-bind (faulty-radius (eqb a 1)) (λ c. faulty-give))))))
     (λ plan. faulty-bind (faulty-bind (faulty-signed (between (negsuc 499999) (pos 3000000))) (λ a. faulty-bind (faulty-field 1 100) (λ n. faulty-bind
     (faulty-many (λ k. faulty-bind (faulty-field 1 10000000) (λ a. faulty-bind (faulty-signed (between (negsuc 119999) (pos 120000))) (λ b. faulty-bind (faulty-half k) (λ c. faulty-give)))) n) (λ l. faulty-give))))
@@ -167,11 +191,12 @@ read-refuses f = go (ltb 8192 (length f))
 
     inner : (g : Got Road) → Refuses 2 3 g → Refuses 1 4 (andThen g λ r at. ended r f at)
     inner (got r at) w = behind r at (ltb at (length f))
-    inner (refused k i) w = let low = w .low in let high = w .high in only k (omega arith) (omega arith)
+    inner (refused k i) (inl w) = let low = w .low in let high = w .high in only k (omega arith) (omega arith)
+    inner (refused k i) (inr e) = inr e
 
     go : (b : Bool) → Refuses 1 4 (if b then refused 1 8192 else andThen (fields f 0) λ r at. ended r f at)
     go true = only 1 (omega arith) (omega arith)
     go false = inner (fields f 0) (faulty-fields .at-most f 0)
 
-pub read-number : (f : List ℕ) (n p : ℕ) → read f ≡ refused n p → Within 1 4 n
+pub read-number : (f : List ℕ) (n p : ℕ) → read f ≡ refused n p → WithinOrDate 1 4 n
 read-number f n p e = subst (Refuses 1 4) e (read-refuses f)

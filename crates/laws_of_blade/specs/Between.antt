@@ -10,7 +10,8 @@ use Rattle.integers.specs.Rounding.{rounded}
 use Rattle.integers.specs.Fraction.{Frac, _÷_, whole, _+ᶠ_, _-ᶠ_, _×ᶠ_, size, _≤ᶠ_, _≈ᶠ_}
 use Rattle.integers.specs.Values.{positive-mul, other-way, add-value, mul-value, far-value}
 use Rattle.road.specs.File.{Road}
-use Rattle.road.specs.Exact.{Side, total, tangentHeight, startHeight, curveHeight, height, crossfallBy, edgeDrop, edge, halfLength, gradeChange, laneWidth}
+use Rattle.road.specs.Exact.{Side, total, tangentHeight, startHeight, curveHeight, height, crossfallBy, edgeDrop, edge, halfLength, gradeChange}
+use Rattle.road.specs.Lane.{laneWidth}
 use Rattle.road.specs.Line.{printedEdge}
 use Rattle.road.specs.Blade.{Neighbouring, blade, oneCurve, sagitta, bound}
 use Rattle.laws_of_acceptance.specs.Facts.{Facts}

@@ -6,7 +6,8 @@ use lib.IntN.{pos, _+ℤ_, _-ℤ_, _*ℤ_}
 use Rattle.integers.specs.Ring.{X, _:+_, _:-_, _:*_, #, ring, $}
 use Rattle.integers.specs.Fraction.{Frac, _÷_, _×ᶠ_}
 use Rattle.road.specs.File.{Road}
-use Rattle.road.specs.Exact.{Side, tangentOf, tangentStart, rise, startHeight, tangentHeight, curveHeight, gradeChange, halfLength, vertex, pointOf, crossfallOf, crossfallBy, laneWidth}
+use Rattle.road.specs.Exact.{Side, tangentOf, tangentStart, rise, startHeight, tangentHeight, curveHeight, gradeChange, halfLength, vertex, pointOf, crossfallOf, crossfallBy}
+use Rattle.road.specs.Lane.{laneWidth}
 use Rattle.laws_of_blade.specs.Chord.{ChordAbove}
 
 -- a line, from which the three stations' values are taken

@@ -3,10 +3,9 @@ use mathlib.Core.Path.{_≡_, ap, _∙_}
 use Rattle.road.specs.File.{Road}
 use Rattle.road.specs.Exact.{Side}
 use Rattle.road.specs.Line.{printedEdge}
-use Rattle.road.specs.Blade.{Row, edgeNumber, printedHeight, BladeClose, Demand3}
+use Rattle.road.specs.Demand.{Row, edgeNumber, printedHeight, BladeClose, Demand3}
 use Rattle.decimal.specs.Decimal.{numberIn}
-use Rattle.laws_of_acceptance.specs.Positive.{accepted-road}
-use Rattle.laws_of_acceptance.specs.Facts.{facts}
+use Rattle.laws_of_acceptance.specs.Positive.{accepted-road, facts}
 use Rattle.laws_of_blade.specs.EdgeRead.{edge-read}
 use Rattle.laws_of_blade.specs.RunRows.{RowOf, row-of}
 use Rattle.laws_of_blade.specs.Between.{between}

@@ -7,7 +7,7 @@ use Rattle.decimal.specs.ReadBack.{number-in}
 use Rattle.road.specs.File.{Road}
 use Rattle.road.specs.Exact.{Side, left, right}
 use Rattle.road.specs.Line.{printedEdge, printed, line}
-use Rattle.road.specs.Blade.{edgeNumber}
+use Rattle.road.specs.Demand.{edgeNumber}
 
 -- "its sixth and seventh numbers are its printed edge heights"
 pub edge-read : (d : Side) (r : Road) (s : ℕ) → numberIn (edgeNumber d) (line r s) ≡ printedEdge d r s

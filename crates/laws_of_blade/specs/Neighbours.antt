@@ -14,7 +14,8 @@ use Rattle.road.specs.Listed.{stations, listed}
 use Rattle.road.specs.Rules.{accepted}
 use Rattle.road.specs.Line.{line}
 use Rattle.road.specs.Machine.{row, overwrite, trace}
-use Rattle.road.specs.Blade.{Row, rowsOf, printedHeight, Neighbouring, blade, bound, BladeClose}
+use Rattle.road.specs.Blade.{Neighbouring, blade, bound}
+use Rattle.road.specs.Demand.{Row, rowsOf, printedHeight, BladeClose}
 use Rattle.road.specs.Listing.{listingCalls, listingRows}
 use Rattle.laws_of_acceptance.specs.Positive.{Accepted, accepted-road}
 use Rattle.laws_of_search.specs.Members.{At, item-has, item-from}

@@ -15,7 +15,7 @@ use Rattle.road.specs.Exact.{total}
 use Rattle.road.specs.Rules.{accepted}
 use Rattle.road.specs.Line.{line}
 use Rattle.road.specs.Machine.{Call, row, next, refusal, wrote, station, rowOn, bufferOn, rowAnswer, rowBuffer, overwrite, step, trace}
-use Rattle.road.specs.Blade.{Row, rowIn, rowsOf}
+use Rattle.road.specs.Demand.{Row, rowIn, rowsOf}
 
 pub record RowOf (r : Road) (a : Row) : Type 0 where
   pub within : a .station ≤ total r

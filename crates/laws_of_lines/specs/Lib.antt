@@ -1,2 +1,3 @@
 pub mod Fits
 pub mod Buffer
+pub mod AnyContract

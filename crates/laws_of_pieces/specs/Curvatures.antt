@@ -5,24 +5,20 @@ use mathlib.Core.List.{[], _∷_}
 use Prim.Native.Nat.{ℕ, zero, suc, _+_, _*_, _≤_, _<_}
 use native.Mathlib.Omega.{arith}
 use native.Mathlib.Decide.{decLt}
-use borrow.Author.Tests.{ltb-false, eqb-true, eq-eqb}
+use borrow.Author.Tests.{eqb-true, eq-eqb}
 use lib.ListN.{length, List·getD-eq-default}
-use lib.Dec.{ltb, eqb}
+use lib.Dec.{eqb}
 use lib.IntN.{ℤ, pos, negsuc, natAbs, _-ℤ_}
 use Rattle.integers.specs.Ring.{_:+_, _:-_, _:*_, #, ring, $}
 use Rattle.integers.specs.Fraction.{Frac, _÷_, whole, _+ᶠ_, _-ᶠ_, _×ᶠ_, _≈ᶠ_}
 use Rattle.integers.specs.Values.{positive-mul, same-value, other-way, _then_}
 use Rattle.road.specs.Base.{if_then_else_}
 use Rattle.road.specs.File.{Road}
-use Rattle.road.specs.Limits.{limits}
 use Rattle.road.specs.Exact.{blankElement, elementOf, elementStart, elementAt, isStraight, isArc, arcCurvature, endCurvature, startCurvature, clothoidCurvature, curvatureOn, curvature, from_to_}
 use Rattle.laws_of_acceptance.specs.PlanOrder.{Stands, BesideClothoid, entry, exit, BesideArc, between, PlanOrder, entry-of, exit-of}
 use Rattle.laws_of_acceptance.specs.Positive.{Accepted, plan-ordered}
-use Rattle.road.specs.declared.Rule.the-variants as rule
-use Rattle.road.specs.declared.ElementRule.the-variants as element
 use Rattle.laws_of_acceptance.specs.Lists.{element-step}
 use Rattle.laws_of_lists.specs.Tests.{true-false}
-use Rattle.laws_of_acceptance.specs.Table.{limits-sound}
 use Rattle.laws_of_acceptance.specs.Ranges.{element-in}
 use Rattle.laws_of_pieces.specs.Joints.{none-from, ahead-by}
 use Rattle.laws_of_search.specs.Items.{EndToEnd, value-at}
@@ -116,11 +112,8 @@ module _ {r : Road} (A : Accepted r) where
   order : PlanOrder r
   order = plan-ordered A
 
-  -- rule 10
   arc-positive : (i : ℕ) → i < length (r .plan) → isArc (elementOf r i) ≡ true → 0 < arcCurvature (elementOf r i .radius) .den
-  arc-positive i h e =
-      let t : ltb (natAbs (elementOf r i .radius)) (limits r .radiusMin) ≡ false = rw e at (A .kept (rule.Element element.TightArc) i h) in
-      arc-curvature-positive (elementOf r i .radius) (omega (arith, ltb-false (natAbs (elementOf r i .radius)) (limits r .radiusMin) t, limits-sound r .radius))
+  arc-positive i h e = arc-curvature-positive (elementOf r i .radius) (omega (arith, element-in A i h .radius .arc e .low))
 
   end-positive : (i : ℕ) → 0 < endCurvature r i .den
   unfolding endCurvature

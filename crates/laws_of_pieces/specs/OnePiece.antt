@@ -8,9 +8,8 @@ use native.Mathlib.Omega.{arith}
 use native.Mathlib.Decide.{decLt, decLe}
 use lib.ListN.{length}
 use Rattle.road.specs.File.{Road}
-use Rattle.road.specs.Exact.{tangentStart, tangentAt, total, vertexCount, vertex, halfLength, inCurve, pointOf, pointAt}
+use Rattle.road.specs.Exact.{tangentStart, tangentAt, total, vertexCount, vertex, halfLength, inCurve, pointOf, pointAt, halfBefore}
 use Rattle.road.specs.Listed.{stations}
-use Rattle.road.specs.Rules.{halfBefore}
 use Rattle.laws_of_search.specs.Searches.{first-some, first-none}
 use Rattle.road.specs.Blade.{Neighbouring, oneCurve}
 use Rattle.laws_of_stations.specs.Next.{listed-has}

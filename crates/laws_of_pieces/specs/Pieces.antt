@@ -11,8 +11,7 @@ use lib.Dec.{leb, ltb}
 use Rattle.integers.specs.Fraction.{Frac, _≈ᶠ_}
 use Rattle.integers.specs.Values.{same-value, other-way, _then_}
 use Rattle.road.specs.File.{Road}
-use Rattle.road.specs.Exact.{tangentStart, tangentAt, total, vertexCount, vertex, halfLength, inCurve, curveAt}
-use Rattle.road.specs.Rules.{halfBefore}
+use Rattle.road.specs.Exact.{tangentStart, tangentAt, total, vertexCount, vertex, halfLength, inCurve, curveAt, halfBefore}
 use Rattle.laws_of_search.specs.Searches.{first-some, first-none}
 use Rattle.laws_of_acceptance.specs.Lists.{tangent-step}
 use Rattle.laws_of_lists.specs.Tests.{true-false, and-left, and-right, and-both}

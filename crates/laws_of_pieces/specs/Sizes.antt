@@ -12,16 +12,17 @@ use Rattle.integers.specs.Bridge.{abs-sum, abs-difference, abs-product}
 use Rattle.road.specs.Base.{if_then_else_, sumOf}
 use Rattle.integers.specs.Fraction.{_÷_, whole, _+ᶠ_, _-ᶠ_, _×ᶠ_}
 use Rattle.road.specs.File.{Road}
-use Rattle.road.specs.Exact.{total, tangentOf, pointOf, elementOf, elementStart, elementAt, isStraight, isArc, tangentStart, tangentAt, vertexCount, vertex, halfLength, gradeChange, past, rise, startHeight, tangentHeight, inCurve, curveAt, curveHeight, heightBy, height, gradeBy, grade, Side, crossfallOf, crossfallBy, crossfall, pointAt, edgeDrop, arcCurvature, endCurvature, startCurvature, clothoidCurvature, curvatureOn, curvature, from_to_, laneWidth}
+use Rattle.road.specs.Exact.{total, tangentOf, pointOf, elementOf, elementStart, elementAt, isStraight, isArc, tangentStart, tangentAt, vertexCount, vertex, halfLength, gradeChange, past, rise, startHeight, tangentHeight, inCurve, curveAt, curveHeight, heightBy, height, gradeBy, grade, Side, crossfallOf, crossfallBy, crossfall, pointAt, edgeDrop, arcCurvature, endCurvature, startCurvature, clothoidCurvature, curvatureOn, curvature, from_to_}
+use Rattle.road.specs.Lane.{laneWidth}
 use Rattle.laws_of_search.specs.Searches.{first-some}
 use Rattle.laws_of_lists.specs.All.{All}
 use Rattle.laws_of_acceptance.specs.Ranged.{TangentRange}
 use Rattle.laws_of_lists.specs.All as all
-use Rattle.laws_of_acceptance.specs.Positive.{Accepted}
+use Rattle.laws_of_acceptance.specs.Positive.{Accepted, facts}
 use Rattle.laws_of_acceptance.specs.Lists.{element-step}
 use Rattle.road.specs.declared.Tangent.{Tangent}
 use Rattle.laws_of_acceptance.specs.Table.{lane-range}
-use Rattle.laws_of_acceptance.specs.Facts.{facts, start-first, points-end}
+use Rattle.laws_of_acceptance.specs.Facts.{start-first, points-end}
 use Rattle.laws_of_acceptance.specs.Ranges.{total-small, tangent-inside, tangent-in, crossfall-in}
 use Rattle.laws_of_search.specs.Last.{Begun, begun, begun-upto}
 use Rattle.laws_of_pieces.specs.Pieces.{OnCurve, on-curve}

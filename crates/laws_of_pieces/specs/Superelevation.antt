@@ -26,8 +26,8 @@ use Rattle.road.specs.declared.Rule.the-variants as rule
 use Rattle.laws_of_acceptance.specs.Lists.{element-step}
 use Rattle.road.specs.declared.Crossfall.{Crossfall}
 use Rattle.laws_of_lists.specs.Tests.{true-false, and-left, and-right, and-both, or-left, or-right, or-true, or-yes}
-use Rattle.laws_of_acceptance.specs.Positive.{Accepted}
-use Rattle.laws_of_acceptance.specs.Facts.{Placed, facts, placed, placed-rise, placed-end, elements-rise}
+use Rattle.laws_of_acceptance.specs.Positive.{Accepted, facts}
+use Rattle.laws_of_acceptance.specs.Facts.{Placed, placed, placed-rise, placed-end, elements-rise}
 use Rattle.laws_of_acceptance.specs.Ranges.{element-in}
 use Rattle.laws_of_search.specs.Last.{rises-to, Begun, begun, begun-before}
 use Rattle.laws_of_pieces.specs.Crossfalls.{by-positive, crossfall-by}

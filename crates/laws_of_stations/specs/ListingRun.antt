@@ -10,10 +10,9 @@ use Rattle.road.specs.File.{Road}
 use Rattle.road.specs.Listed.{listed}
 use Rattle.road.specs.Rules.{accepted}
 use Rattle.road.specs.Line.{line}
-use Rattle.road.specs.Blade.{Row}
+use Rattle.road.specs.Demand.{Row}
 use Rattle.road.specs.Listing.{listingRows, output, listing, listBy, listOf, ListingRun}
-use Rattle.laws_of_acceptance.specs.Positive.{accepted-road}
-use Rattle.laws_of_acceptance.specs.Facts.{facts}
+use Rattle.laws_of_acceptance.specs.Positive.{accepted-road, facts}
 use Rattle.laws_of_stations.specs.Stations.{stations-inside}
 use Rattle.laws_of_stations.specs.Visits.{rowAt, listing-rows}
 

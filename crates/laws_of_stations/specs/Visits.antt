@@ -16,7 +16,7 @@ use Rattle.road.specs.Rules.{accepted}
 use Rattle.road.specs.Line.{line}
 use Rattle.laws_of_search.specs.Searches.{least-ascending}
 use Rattle.road.specs.Machine.{Call, row, next, Answer, wrote, station, noStation, rowOn, bufferOn, rowAnswer, rowBuffer, overwrite, nextOn, stationOr, nextAnswer, step, trace}
-use Rattle.road.specs.Blade.{Row, rowIn, rowsOf}
+use Rattle.road.specs.Demand.{Row, rowIn, rowsOf}
 use Rattle.road.specs.Listing.{callsFrom, listingCalls, rowsAtMost, listingRows}
 use Rattle.laws_of_lists.specs.All.{All, all-append}
 use Rattle.laws_of_lists.specs.All as all

@@ -1,4 +1,4 @@
--- The limits of refusals 1 to 21 at both their sides, about the meanings, as a table with one theorem.
+-- The limits of refusals 1 to 22 at both their sides, about the meanings, as a table with one theorem.
 -- A limit that the table of speeds gives is tried at speeds whose rows differ there.
 use Prim.Native.Nat.{ℕ, suc, _+_, _*_}
 use mathlib.Core.Path.{_≡_, refl}
@@ -377,6 +377,117 @@ plans =
     ∷ tiltedBend at70 (minus 200_000) 50_000 60_000 49_999 (minus 25_000) (pos 25_000) gives turnedAway 12 3
     ∷ []
 
+-- ---- refusal 22, and refusals 10 and 12 by the contract's date
+
+-- a contract of a day, before the class and the terrain of a speed
+abbrev contracted : (day : ℕ) (speed : List ℕ) → List ℕ
+contracted day speed = 9 ∷ day ∷ speed
+
+-- the last day of the old handbook, and the first of today's rule book
+abbrev old : List ℕ → List ℕ
+old speed = contracted 20_111_231 speed
+
+abbrev new : List ℕ → List ℕ
+new speed = contracted 20_120_101 speed
+
+-- a straight of 1 m, contracted on a day
+abbrev day : ℕ → List ℕ
+day n = straight (contracted n at40) 1000
+
+abbrev pub contracts : List Item
+contracts =
+    -- 22. the first day and the last
+    day 19_491_231 gives turnedAway 22 1
+    ∷ day 19_500_101 gives passes
+    ∷ day 20_991_231 gives passes
+    ∷ day 21_000_101 gives turnedAway 22 1
+    -- 22. 29 February in every fourth year, in 2000 too
+    ∷ day 20_000_229 gives passes
+    ∷ day 20_010_229 gives turnedAway 22 1
+    ∷ day 20_010_228 gives passes
+    ∷ day 20_040_229 gives passes
+    ∷ day 20_040_230 gives turnedAway 22 1
+    -- 22. the last day of each month
+    ∷ day 20_110_131 gives passes
+    ∷ day 20_110_132 gives turnedAway 22 1
+    ∷ day 20_110_331 gives passes
+    ∷ day 20_110_332 gives turnedAway 22 1
+    ∷ day 20_110_430 gives passes
+    ∷ day 20_110_431 gives turnedAway 22 1
+    ∷ day 20_110_531 gives passes
+    ∷ day 20_110_532 gives turnedAway 22 1
+    ∷ day 20_110_630 gives passes
+    ∷ day 20_110_631 gives turnedAway 22 1
+    ∷ day 20_110_731 gives passes
+    ∷ day 20_110_732 gives turnedAway 22 1
+    ∷ day 20_110_831 gives passes
+    ∷ day 20_110_832 gives turnedAway 22 1
+    ∷ day 20_110_930 gives passes
+    ∷ day 20_110_931 gives turnedAway 22 1
+    ∷ day 20_111_031 gives passes
+    ∷ day 20_111_032 gives turnedAway 22 1
+    ∷ day 20_111_130 gives passes
+    ∷ day 20_111_131 gives turnedAway 22 1
+    ∷ day 20_111_231 gives passes
+    ∷ day 20_111_232 gives turnedAway 22 1
+    -- 22. no month 0 and none beyond 12, no day 0; the least number and the greatest
+    ∷ day 20_110_001 gives turnedAway 22 1
+    ∷ day 20_110_100 gives turnedAway 22 1
+    ∷ day 20_111_301 gives turnedAway 22 1
+    ∷ day 0 gives turnedAway 22 1
+    ∷ day 4_294_967_295 gives turnedAway 22 1
+    -- 2 before 22; 22 before what follows, a class that no road has or nothing
+    ∷ (9 ∷ []) gives turnedAway 2 1
+    ∷ (9 ∷ 0x80 ∷ 0x00 ∷ []) gives turnedAway 2 1
+    ∷ file (9 ∷ 20_110_229 ∷ 5 ∷ []) gives turnedAway 22 1
+    ∷ file (9 ∷ 20_110_228 ∷ 5 ∷ []) gives turnedAway 3 5
+    ∷ file (9 ∷ 20_110_229 ∷ []) gives turnedAway 22 1
+    ∷ file (9 ∷ 20_110_228 ∷ []) gives turnedAway 2 5
+    -- any other first number is the class
+    ∷ file (8 ∷ 20_110_228 ∷ []) gives turnedAway 3 0
+    ∷ file (10 ∷ 20_110_228 ∷ []) gives turnedAway 3 0
+    -- 10. at 70 km/h 180 m before 20120101, 175 m from then on
+    ∷ bendRoad (old at70) 180_000 100_000 60_000 gives passes
+    ∷ bendRoad (old at70) 179_999 100_000 60_000 gives turnedAway 10 2
+    ∷ bendRoad (new at70) 175_000 100_000 60_000 gives passes
+    ∷ bendRoad (new at70) 174_999 100_000 60_000 gives turnedAway 10 2
+    -- 10. on the first day and the last
+    ∷ bendRoad (contracted 19_500_101 at70) 180_000 100_000 60_000 gives passes
+    ∷ bendRoad (contracted 19_500_101 at70) 179_999 100_000 60_000 gives turnedAway 10 2
+    ∷ bendRoad (contracted 20_991_231 at70) 175_000 100_000 60_000 gives passes
+    ∷ bendRoad (contracted 20_991_231 at70) 174_999 100_000 60_000 gives turnedAway 10 2
+    -- 10. at the other speeds the same
+    ∷ bendRoad (old at40) 45_000 100_000 60_000 gives passes
+    ∷ bendRoad (old at40) 44_999 100_000 60_000 gives turnedAway 10 2
+    ∷ bendRoad (old at50) 75_000 100_000 60_000 gives passes
+    ∷ bendRoad (old at50) 74_999 100_000 60_000 gives turnedAway 10 2
+    ∷ bendRoad (old at60) 120_000 100_000 60_000 gives passes
+    ∷ bendRoad (old at60) 119_999 100_000 60_000 gives turnedAway 10 2
+    ∷ bendRoad (old at80) 250_000 100_000 60_000 gives passes
+    ∷ bendRoad (old at80) 249_999 100_000 60_000 gives turnedAway 10 2
+    ∷ bendRoad (old at100) 450_000 100_000 60_000 gives passes
+    ∷ bendRoad (old at100) 449_999 100_000 60_000 gives turnedAway 10 2
+    -- 12. before 20120101 the least length, whatever the radius
+    ∷ bendRoad (old at40) 500_000 30_000 60_000 gives passes
+    ∷ bendRoad (old at40) 500_000 29_999 60_000 gives turnedAway 12 1
+    ∷ bendRoad (old at40) 10_000_000 29_999 60_000 gives turnedAway 12 1
+    ∷ bendRoad (old at50) 75_000 40_000 60_000 gives passes
+    ∷ bendRoad (old at50) 75_000 39_999 60_000 gives turnedAway 12 1
+    ∷ bendRoad (old at60) 500_000 50_000 60_000 gives passes
+    ∷ bendRoad (old at60) 500_000 49_999 60_000 gives turnedAway 12 1
+    ∷ bendRoad (old at70) 500_000 60_000 60_000 gives passes
+    ∷ bendRoad (old at70) 500_000 59_999 60_000 gives turnedAway 12 1
+    ∷ bendRoad (old at80) 500_000 70_000 60_000 gives passes
+    ∷ bendRoad (old at80) 500_000 69_999 60_000 gives turnedAway 12 1
+    ∷ bendRoad (old at100) 500_000 100_000 60_000 gives passes
+    ∷ bendRoad (old at100) 500_000 99_999 60_000 gives turnedAway 12 1
+    -- 12. from then on A min squared, and no least length
+    ∷ bendRoad (new at50) 75_000 40_334 60_000 gives passes
+    ∷ bendRoad (new at50) 75_000 40_333 60_000 gives turnedAway 12 1
+    ∷ bendRoad (new at40) 500_000 2450 60_000 gives passes
+    ∷ bendRoad (new at40) 500_000 2449 60_000 gives turnedAway 12 1
+    ∷ []
+
 -- ---- refusals 13 to 15
 
 -- a straight of 1 m on a grade
@@ -595,7 +706,7 @@ rows =
     ∷ []
 
 abbrev pub atLimits : List Item
-atLimits = sizes ++ ranges ++ plans ++ profiles ++ crossfalls ++ rows
+atLimits = sizes ++ ranges ++ plans ++ contracts ++ profiles ++ crossfalls ++ rows
 
 pub at-limits-hold : map (λ (i : Item). says (i .asked) (i .bytes)) atLimits ≡ map (λ (i : Item). i .answer) atLimits
 unfolding computed

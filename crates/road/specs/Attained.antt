@@ -19,9 +19,11 @@ use Rattle.road.specs.File.{Road}
 use Rattle.road.specs.Exact.{Side, left, right, edge}
 use Rattle.road.specs.Listed.{listed}
 use Rattle.road.specs.Rules.{accepted}
-use Rattle.road.specs.Blade.{Row, printedHeight, Neighbouring, blade, bound, BladeClose}
+use Rattle.road.specs.Blade.{Neighbouring, blade, bound}
+use Rattle.road.specs.Demand.{Row, printedHeight, BladeClose}
 use Rattle.road.specs.Listing.{listingCalls, listingRows}
 use Rattle.road.specs.Sample as Sample
+use Rattle.road.specs.declared.Contract.the-variants.{Undated}
 use Rattle.road.specs.Compute.{computed}
 
 -- ---- the road: a sag of h 11,000 from 25 to 22,025, and 50 mm of tangent behind it
@@ -43,7 +45,7 @@ file = joined shortest numbers
 
 abbrev pub road : Road
 road = record {
-  head = record { class = 4; terrain = 3; step = 50_000; ramp = 5000 };
+  head = record { contract = Undated; class = 4; terrain = 3; step = 50_000; ramp = 5000 };
   plan = record { kind = 0; length = 22_075; radius = pos 0 } ∷ [];
   start = pos 0;
   tangents = record { length = 11_025; grade = negsuc 19_999; half = 11_000 } ∷ record { length = 11_050; grade = pos 20_000; half = 0 } ∷ [];

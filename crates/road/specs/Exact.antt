@@ -9,7 +9,7 @@ use lib.IntN.{ℤ, pos, _+ℤ_, _-ℤ_, _*ℤ_}
 use Rattle.road.specs.Base.{if_then_else_, firstThat, lastThat, sumOf}
 use Rattle.integers.specs.Fraction.{Frac, _÷_, whole, _over_, _+ᶠ_, _-ᶠ_, _×ᶠ_}
 use Rattle.road.specs.File.{Road}
-use Rattle.road.specs.Limits.{limits}
+use Rattle.road.specs.Lane.{laneWidth}
 use Rattle.road.specs.declared.Element.{Element}
 use Rattle.road.specs.declared.Tangent.{Tangent}
 use Rattle.road.specs.declared.Crossfall.{Crossfall}
@@ -95,6 +95,13 @@ vertex r i = tangentStart r (suc i)
 abbrev pub halfLength : Road → ℕ → ℕ
 halfLength r i = tangentOf r i .half
 
+-- the tangent before tangent i, the blank one before the first, and the half length at the start of tangent i
+abbrev pub tangentBefore : Road → ℕ → Tangent
+tangentBefore r i = getD (blankTangent ∷ r .tangents) i blankTangent
+
+abbrev pub halfBefore : Road → ℕ → ℕ
+halfBefore r i = tangentBefore r i .half
+
 -- g2 − g1
 abbrev pub gradeChange : Road → ℕ → ℤ
 gradeChange r i = tangentOf r (suc i) .grade -ℤ tangentOf r i .grade
@@ -146,10 +153,6 @@ crossfallBy d r i s =
 
 unfoldable pub crossfall : Side → Road → ℕ → Frac
 crossfall d r s = crossfallBy d r (pointAt r s) s
-
--- the lane width of a road, that of its speed's row
-unfoldable pub laneWidth : Road → ℕ
-laneWidth r = limits r .lane
 
 -- "The drop is crossfall × lane width / 10⁶, from the exact crossfall."
 unfoldable pub edgeDrop : Side → Road → ℕ → Frac

@@ -1,6 +1,6 @@
--- Document 01, "The file": the fields in order, with their ranges.
-use Prim.Native.Nat.{ℕ, zero, suc, _+_, _*_, _/_, _%_}
-use mathlib.Core.List.{List, [], _∷_}
+-- Document 01, "The file", with request A.1: the fields in order, with their ranges.
+use Prim.Native.Nat.{ℕ, zero, suc}
+use mathlib.Core.List.{List}
 use mathlib.Core.Bool.{Bool, true, false, _&&_}
 use lib.ListN.{length}
 use lib.Dec.{leb, ltb, eqb}
@@ -9,6 +9,9 @@ use lib.Signed.{leZ}
 use Rattle.file_numbers.specs.Reading.{Got, got, refused, andThen, Reading, _>>=_, give, many}
 use Rattle.road.specs.Base.{if_then_else_}
 use Rattle.file_numbers.specs.Number.{number, signedOf}
+use Rattle.days.specs.Day.{isDay}
+use Rattle.road.specs.declared.Contract.{Contract}
+use Rattle.road.specs.declared.Contract.the-variants.{Undated, Dated}
 use Rattle.road.specs.declared.Head.{Head}
 use Rattle.road.specs.declared.Element.{Element}
 use Rattle.road.specs.declared.Tangent.{Tangent}
@@ -22,9 +25,13 @@ pub record Road : Type 0 where
   pub tangents : List Tangent
   pub crossfalls : List Crossfall
 
+-- a value that does not fit is refused at its number's first byte
+unfoldable pub fitting : {A : Type 0} → (refusal : ℕ) → (A → Bool) → A → ℕ → Reading A
+fitting refusal fits a at s next = if fits a then got a next else refused refusal at
+
 -- 3. "A number is outside its range (place: its first byte)."
-unfoldable pub inRange : {A : Type 0} → (A → Bool) → A → ℕ → Reading A
-inRange fits a at s next = if fits a then got a next else refused 3 at
+abbrev pub inRange : {A : Type 0} → (A → Bool) → A → ℕ → Reading A
+inRange = fitting 3
 
 -- a number from low to high
 unfoldable pub field : (low high : ℕ) → Reading ℕ
@@ -74,14 +81,34 @@ point = do
   right ← signed (between (negsuc 79_999) (pos 80_000))
   give (record { station = station; left = left; right = right })
 
+-- 22. "A date that is no Gregorian day from 19500101 to 20991231 is refused with 22 as it is read, before any later number, its place being the date's first byte."
+unfoldable pub date : Reading ℕ
+date s at = andThen (number s at) λ v next. fitting 22 isDay v at s next
+
+-- the number at a place is n
+unfoldable pub numberIs : (n : ℕ) → List ℕ → ℕ → Bool
+numberIs n s at = elim (number s at) [ got v next ↦ eqb v n | refused k p ↦ false ]
+
+-- the number that tells the layout, and the contract date
+unfoldable pub datedFields : Reading Contract
+datedFields = do
+  layout ← number
+  day ← date
+  give (Dated day)
+
+-- "A file beginning with 9 has the contract date next, .. and then the layout we have from class onward."
+unfoldable pub contractFields : Reading Contract
+contractFields s at = elim (numberIs 9 s at) [ true ↦ datedFields s at | false ↦ give Undated s at ]
+
 -- "class 1 long-distance, 2 connecting, 3 collecting, 4 access; terrain 1 flat, 2 hilly, 3 mountain; step 1,000 to 100,000; ramp limit 1 to 20,000 ppm"
 unfoldable pub headFields : Reading Head
 headFields = do
+  contract ← contractFields
   class ← field 1 4
   terrain ← field 1 3
   step ← field 1000 100_000
   ramp ← field 1 20_000
-  give (record { class = class; terrain = terrain; step = step; ramp = ramp })
+  give (record { contract = contract; class = class; terrain = terrain; step = step; ramp = ramp })
 
 -- "plan count 1 to 200; each element"
 unfoldable pub planFields : Reading (List Element)
@@ -123,6 +150,6 @@ fields = do
 unfoldable pub ended : Road → Reading Road
 ended r s at = if ltb at (length s) then refused 4 at else got r at
 
--- 1. "The file has more than 8,192 bytes (place 8192)"; "1 is tried before any number is read, 2 and 3 come at the first faulty number, 2 before 3, and 4 after the last number"
+-- 1. "The file has more than 8,192 bytes (place 8192)"; "1 is tried before any number is read, 2 and 3 come at the first faulty number, 2 before 3, and 4 after the last number"; 22 comes at the date
 unfoldable pub read : List ℕ → Got Road
 read s = if ltb 8192 (length s) then refused 1 8192 else andThen (fields s 0) λ r at. ended r s at

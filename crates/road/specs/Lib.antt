@@ -2,6 +2,7 @@ pub mod Base
 pub mod File
 pub mod Limits
 pub mod Source
+pub mod Lane
 pub mod Exact
 pub mod Held
 pub mod Listed
@@ -9,6 +10,7 @@ pub mod Rules
 pub mod Line
 pub mod Machine
 pub mod Blade
+pub mod Demand
 pub mod Listing
 pub mod Compute
 pub mod Starred

@@ -13,7 +13,7 @@ use Rattle.road.specs.Rules.{accepted}
 use Rattle.road.specs.Line.{line}
 use Rattle.decimal.specs.Decimal.{spaced}
 use Rattle.road.specs.Machine.{Call, row, next, refusal, wrote, station, noStation, trace, nextAnswer}
-use Rattle.road.specs.Blade.{Row, rowsOf}
+use Rattle.road.specs.Demand.{Row, rowsOf}
 
 -- "asks for the next station from 0, then for the row there, then from 1 past each station answered, until there is none"; n bounds the rows
 unfoldable pub callsFrom : ℕ → List ℕ → ℕ → List Call

@@ -12,7 +12,9 @@ use Rattle.file_numbers.specs.Reading.{Got, got, refused, andThen}
 use Rattle.road.specs.Base.{if_then_else_, firstThat}
 use Rattle.road.specs.File.{Road, read}
 use Rattle.road.specs.Limits.{Limits, limits, ruled}
-use Rattle.road.specs.Exact.{blankElement, blankTangent, blankCrossfall, elementOf, tangentOf, pointOf, isStraight, isArc, isClothoid, elementStart, tangentStart, total, pointAt, Side, left, right, crossfallOf}
+use Rattle.road.specs.Exact.{blankElement, blankTangent, blankCrossfall, elementOf, tangentOf, tangentBefore, pointOf, isStraight, isArc, isClothoid, elementStart, tangentStart, total, pointAt, Side, left, right, crossfallOf}
+use Rattle.road.specs.declared.LeastClothoid.{LeastClothoid}
+use Rattle.road.specs.declared.LeastClothoid.the-variants.{Parameter, Length}
 use Rattle.road.specs.declared.Element.{Element}
 use Rattle.road.specs.declared.Tangent.{Tangent}
 use Rattle.road.specs.declared.Crossfall.{Crossfall}
@@ -112,9 +114,14 @@ tightArc l e = isArc e && ltb (natAbs (e .radius)) (l .radiusMin)
 abbrev pub shortArc : Limits → Element → Bool
 shortArc l e = isArc e && ltb (e .length) (l .arcMin)
 
--- 12. "A clothoid's length times its arc's unsigned radius is below A min squared (place: element)."
+-- "A clothoid's length times its arc's unsigned radius is below A min squared"; by the old handbook "A min gives way to a least clothoid length"
+unfoldable pub tooShort : LeastClothoid → (length radius : ℕ) → Bool
+tooShort (Parameter a) length radius = ltb (length * radius) (a * a)
+tooShort (Length least) length radius = ltb length least
+
+-- 12. A clothoid is too short for its arc, or for the old handbook (place: element).
 unfoldable pub shortClothoid : Limits → (before e after : Element) → Bool
-shortClothoid l before e after = isClothoid e && ltb (e .length * natAbs (ownArc before after)) (l .parameterMin * l .parameterMin)
+shortClothoid l before e after = isClothoid e && tooShort (l .clothoid) (e .length) (natAbs (ownArc before after))
 
 -- 13. "A grade, unsigned, is over grade max (place: tangent)."
 abbrev pub steepTangent : Limits → Tangent → Bool
@@ -239,15 +246,8 @@ pointTest point.SteepRamp = eachPair 18 λ l p. steepRamp (l .lane) (p .ramp) (p
 abbrev pub elementBefore : Road → ℕ → Element
 elementBefore r i = getD (blankElement ∷ r .plan) i blankElement
 
-abbrev pub tangentBefore : Road → ℕ → Tangent
-tangentBefore r i = getD (blankTangent ∷ r .tangents) i blankTangent
-
 abbrev pub pointBefore : Road → ℕ → Crossfall
 pointBefore r i = getD (blankCrossfall ∷ r .crossfalls) i blankCrossfall
-
--- the half length at the start of tangent i
-abbrev pub halfBefore : Road → ℕ → ℕ
-halfBefore r i = tangentBefore r i .half
 
 abbrev pub elementAmong : Road → ℕ → ElementAmong
 elementAmong r i = record {
@@ -331,6 +331,6 @@ abbrev pub under : Verdict → Road → ℕ → Got Road
 under passes r at = got r at
 under (breaks n p) r at = refused n p
 
--- the road of a file, or the refusal 1 to 19 that turns the file away
+-- the road of a file, or the refusal 1 to 19 or 22 that turns the file away
 unfoldable pub accepted : List ℕ → Got Road
 accepted s = andThen (read s) λ r at. under (judged (limits r) r) r at

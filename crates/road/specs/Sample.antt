@@ -11,6 +11,7 @@ use Rattle.road.specs.File.{Road}
 use Rattle.road.specs.Rules.{accepted}
 use Rattle.road.specs.Text.{printedLine}
 use Rattle.road.specs.Listing.{listing}
+use Rattle.road.specs.declared.Contract.the-variants.{Undated}
 use Rattle.road.specs.Compute.{computed}
 
 -- "The numbers of this file, signed values shown plainly"
@@ -31,7 +32,7 @@ file = joined shortest numbers
 
 abbrev pub road : Road
 road = record {
-  head = record { class = 4; terrain = 3; step = 50_000; ramp = 5000 };
+  head = record { contract = Undated; class = 4; terrain = 3; step = 50_000; ramp = 5000 };
   plan = record { kind = 0; length = 200_000; radius = pos 0 } ∷ [];
   start = pos 500_000;
   tangents = record { length = 100_000; grade = pos 20_000; half = 20_000 } ∷ record { length = 100_000; grade = negsuc 19_999; half = 0 } ∷ [];

@@ -1,11 +1,15 @@
--- The speeds and the table of limits against their source: annex 2 of the rule book (source document 001), table 3-03 and chapter 10; arc lengths from source document 003.
+-- The speeds and the tables of limits against their sources: annex 2 of the rule book (source document 001), table 3-03 and chapter 10; arc lengths and the old handbook's table from source document 003.
 use Prim.Native.Nat.{ℕ, _*_}
 use mathlib.Core.Path.{_≡_, refl}
 use mathlib.Core.List.{List, [], _∷_, map}
-use lib.ListN.{getD}
+use lib.ListN.{getD, take, drop}
 use lib.Dec.{leb, eqb}
+use mathlib.Core.Bool.{true, false}
 use Rattle.road.specs.Base.{if_then_else_, countFrom}
-use Rattle.road.specs.Limits.{speed, noRule, table}
+use Rattle.road.specs.Limits.{speed, noRule, table, cell, isOld, radiusMinAt, clothoidAt, limitsAt}
+use Rattle.road.specs.declared.Contract.{Contract}
+use Rattle.road.specs.declared.Contract.the-variants.{Undated}
+use Rattle.road.specs.declared.LeastClothoid.the-variants.{Length}
 
 -- table 3-03, "Вредности рачунске брзине (V_r)", in km/h and in the source's order:
 -- a row for даљински, везни, сабирни, приступни (classes 1 to 4), a column for равничарски, брдовит, планински (terrains 1 to 3)
@@ -64,3 +68,56 @@ column c = map (λ (limits : List ℕ). getD limits c 0) table
 pub table-from-source : map column (countFrom 0 10) ≡ map limitOf chapter10
 unfolding countFrom
 table-from-source = refl
+
+-- ---- the old handbook
+
+-- source document 003, its second table: "Vr (km/h)", and at these speeds "Lmin (m)" and "Rmin (m)"
+abbrev pub handbookSpeeds : List ℕ
+handbookSpeeds = 30 ∷ 40 ∷ 50 ∷ 60 ∷ 70 ∷ 80 ∷ 90 ∷ 100 ∷ 110 ∷ 120 ∷ []
+
+abbrev pub leastLengths : SourceRow
+leastLengths = row 1000 (25 ∷ 30 ∷ 40 ∷ 50 ∷ 60 ∷ 70 ∷ 90 ∷ 100 ∷ 110 ∷ 120 ∷ [])
+
+abbrev pub leastRadii : SourceRow
+leastRadii = row 1000 (25 ∷ 45 ∷ 75 ∷ 120 ∷ 180 ∷ 250 ∷ 350 ∷ 450 ∷ 600 ∷ 750 ∷ [])
+
+-- the speeds of document 01: the second to the eighth of the table
+abbrev ours : List ℕ → List ℕ
+ours values = take 7 (drop 1 values)
+
+-- they are document 01's seven
+pub handbook-speeds : ours handbookSpeeds ≡ 40 ∷ 50 ∷ 60 ∷ 70 ∷ 80 ∷ 90 ∷ 100 ∷ []
+handbook-speeds = refl
+
+-- at each of them R min and the least length of a clothoid are the source's
+pub radii-from-source : map (λ v. radiusMinAt v true) (ours handbookSpeeds) ≡ ours (limitOf leastRadii)
+unfolding radiusMinAt cell
+radii-from-source = refl
+
+pub lengths-from-source : map (λ v. clothoidAt v true) (ours handbookSpeeds) ≡ map (λ n. Length n) (ours (limitOf leastLengths))
+unfolding clothoidAt cell
+lengths-from-source = refl
+
+-- "R min at 70 km/h is 180 m": at every other speed both books have the same
+pub radii-differ : map (λ v. eqb (radiusMinAt v true) (radiusMinAt v false)) (ours handbookSpeeds) ≡ true ∷ true ∷ true ∷ false ∷ true ∷ true ∷ true ∷ []
+unfolding radiusMinAt cell
+radii-differ = refl
+
+-- every other limit is the same in both books, at any speed and under any contract
+pub others-alike : (v : ℕ) (contract : Contract) → limitsAt v contract ≡ record {
+  straightMax = limitsAt v Undated .straightMax;
+  straightMin = limitsAt v Undated .straightMin;
+  radiusMin = radiusMinAt v (isOld contract);
+  radiusBoth = limitsAt v Undated .radiusBoth;
+  clothoid = clothoidAt v (isOld contract);
+  arcMin = limitsAt v Undated .arcMin;
+  gradeMax = limitsAt v Undated .gradeMax;
+  sagRadius = limitsAt v Undated .sagRadius;
+  crestRadius = limitsAt v Undated .crestRadius;
+  lane = limitsAt v Undated .lane;
+  crossfallMin = limitsAt v Undated .crossfallMin;
+  crossfallMax = limitsAt v Undated .crossfallMax;
+  crown = limitsAt v Undated .crown;
+}
+unfolding limitsAt
+others-alike v contract = refl

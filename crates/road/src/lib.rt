@@ -21,8 +21,21 @@ pub struct Crossfall {
     pub right: i32,
 }
 
+// What a file says of its contract: no date, or the day on which it was made.
+pub enum Contract {
+    Undated,
+    Dated(u32),
+}
+
+// What refusal 12 asks of a clothoid: a least parameter A, or a least length.
+pub enum LeastClothoid {
+    Parameter(u32),
+    Length(u32),
+}
+
 // What a file says before its three lists.
 pub struct Head {
+    pub contract: Contract,
     pub class: u32,
     pub terrain: u32,
     pub step: u32,
