@@ -5,12 +5,13 @@ use Prim.Native.Nat.{ℕ}
 use native.Mathlib.Omega.{arith}
 use Rattle.file_numbers.specs.Reading.{Got, got, refused}
 use Rattle.road.specs.File.{Road, read}
-use Rattle.road.specs.Exact.{total, laneWidth}
+use Rattle.road.specs.Exact.{total}
+use Rattle.road.specs.Lane.{laneWidth}
 use Rattle.road.specs.Held.{roadIn, held, Counted}
 use Rattle.alignment.specs.Answer.{blankRoad}
 use Rattle.alignment.specs.Back.{road-back, read-counted}
 use Rattle.road.specs.Limits.{limits}
-use Rattle.laws_of_acceptance.specs.Ranged.{refused-not-got}
+use Rattle.file_numbers.specs.Refused.{refused-not-got}
 use Rattle.road.specs.Rules.{Verdict, passes, breaks, judged, under, accepted}
 use Rattle.road.specs.declared.Alignment.{Alignment}
 use Rattle.road.specs.declared.AcceptedRoad.{AcceptedRoad}

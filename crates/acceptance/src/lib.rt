@@ -13,7 +13,7 @@ pub enum Outcome {
     Refused(u32, usize),
 }
 
-// What a file gives; beside a refusal the road is blank: no item, and every number 0.
+// What a file gives; beside a refusal the road is blank: no item, no date, and every number 0.
 pub struct Acceptance {
     pub road: AcceptedRoad,
     pub outcome: Outcome,
@@ -34,7 +34,7 @@ fn turned_away(number: u32, place: usize) -> Acceptance
     }
 }
 
-// Refusals 1 to 19 of a file, or its road.
+// Refusals 1 to 19 and 22 of a file, or its road.
 pub fn accept(file: &[u8]) -> Acceptance
     ensures { λ r. ⌜ r ≡ asAccepted (accepted (now (file .entry))) ⌝ }
 {

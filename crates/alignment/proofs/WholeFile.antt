@@ -9,7 +9,7 @@ use Rattle.file_numbers.specs.Reading.{Got, got, refused, andThen, _>>=_, many}
 use Rattle.road.specs.File.{Road, field, signed, between, element, tangent, point, headFields, planFields, profileFields, crossfallFields, roadOf, fields, ended, read}
 use Rattle.road.specs.Held.{held}
 use Rattle.road.specs.Exact.{blankElement, blankTangent, blankCrossfall}
-use Rattle.laws_of_acceptance.specs.Ranged.{refused-not-got}
+use Rattle.file_numbers.specs.Refused.{refused-not-got}
 use Rattle.road.specs.declared.Head.{Head}
 use Rattle.road.specs.declared.Element.{Element}
 use Rattle.road.specs.declared.Tangent.{Tangent}

@@ -1,4 +1,4 @@
--- What the code answers for a file: refusals 1 to 4 of document 01, or the road as an alignment.
+-- What the code answers for a file: refusals 1 to 4 and 22, or the road as an alignment.
 use Prim.Native.Nat.{ℕ}
 use mathlib.Core.List.{[]}
 use lib.IntN.{pos}

@@ -1,4 +1,4 @@
-// Reading a file: from its bytes to the three lists with their counts, or refusal 1 to 4.
+// Reading a file: from its bytes to the three lists with their counts, or refusal 1 to 4 or 22.
 ghost use mathlib.Core.Path.{_≡_};
 ghost use Rattle.road.specs.File.{element, tangent, point, read};
 ghost use Rattle.road.specs.Held.{held};
@@ -8,12 +8,13 @@ ghost use Rattle.alignment.specs.Lists.{listFields, Filled};
 ghost use Rattle.alignment.specs.Answer.{heldFields, blankRoad, asRead, turnedAway};
 use fields::End;
 use road::Alignment;
+use road::Contract;
 use road::Crossfall;
 use road::Element;
 use road::Head;
 use road::Tangent;
 
-// What a file says: its alignment, with no item and every number 0 where the file is refused.
+// What a file says: its alignment, with no item, no date and every number 0 where the file is refused.
 pub struct FileRead {
     pub alignment: Alignment,
     pub end: End,
@@ -137,12 +138,13 @@ fn read_fields(file: &[u8]) -> FileRead
     }
 }
 
-// An alignment with no item and every number 0.
+// An alignment with no item, no date and every number 0.
 pub fn blank() -> Alignment
     ensures { λ r. ⌜ r ≡ held blankRoad ⌝ }
 {
     Alignment {
         head: Head {
+            contract: Contract::Undated,
             class: 0,
             terrain: 0,
             step: 0,

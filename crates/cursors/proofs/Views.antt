@@ -2,7 +2,8 @@
 use mathlib.Core.Path.{_≡_, sym, ap₂, _∙_, subst}
 use Prim.Native.Nat.{ℕ, suc, _≤_}
 use Rattle.road.specs.File.{Road}
-use Rattle.road.specs.Exact.{pointOf, elementStart, total, laneWidth}
+use Rattle.road.specs.Exact.{pointOf, elementStart, total}
+use Rattle.road.specs.Lane.{laneWidth}
 use Rattle.laws_of_stations.specs.Next.{listed-has}
 use Rattle.laws_of_acceptance.specs.Guaranteed.{Guaranteed}
 use Rattle.segment.specs.declared.Segment.{Segment}

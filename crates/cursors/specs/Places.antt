@@ -3,7 +3,8 @@ use mathlib.Core.Path.{_≡_}
 use Prim.Native.Nat.{ℕ, _-_, _≤_, _<_}
 use lib.ListN.{length}
 use Rattle.road.specs.File.{Road}
-use Rattle.road.specs.Exact.{elementStart, tangentStart, total, laneWidth}
+use Rattle.road.specs.Exact.{elementStart, tangentStart, total}
+use Rattle.road.specs.Lane.{laneWidth}
 use Rattle.road.specs.Held.{Counted, roadIn}
 use Rattle.road.specs.declared.Alignment.{Alignment}
 use Rattle.road.specs.declared.AcceptedRoad.{AcceptedRoad}

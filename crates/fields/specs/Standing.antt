@@ -1,4 +1,4 @@
--- A number that stands where reading ended, in its range or refused.
+-- A number that stands where reading ended, fitting or refused.
 use Prim.Native.Nat.{ℕ}
 use mathlib.Core.Path.{_≡_}
 use mathlib.Core.Bool.{Bool, true, false}
@@ -19,20 +19,20 @@ abbrev pub valueOf : Number → ℕ
 valueOf (Value v next) = v
 valueOf Faulty = 0
 
--- where a number ends that stands at a place: refusal 2 or 3 at its first byte where it is at fault or does not fit
-abbrev pub endAt : (at : ℕ) → Number → (fits : Bool) → End
-endAt at (Value v next) true = At next
-endAt at (Value v next) false = Refused 3 at
-endAt at Faulty fits = Refused 2 at
+-- where a number ends that stands at a place: refusal 2 at its first byte where it is at fault, the refusal given where it does not fit
+abbrev pub endAt : (refusal at : ℕ) → Number → (fits : Bool) → End
+endAt refusal at (Value v next) true = At next
+endAt refusal at (Value v next) false = Refused refusal at
+endAt refusal at Faulty fits = Refused 2 at
 
 -- the same where reading ended; an earlier refusal stays
-abbrev pub endFrom : End → Number → (fits : Bool) → End
-endFrom (At at) n fits = endAt at n fits
-endFrom (Refused k p) n fits = Refused k p
+abbrev pub endFrom : (refusal : ℕ) → End → Number → (fits : Bool) → End
+endFrom refusal (At at) n fits = endAt refusal at n fits
+endFrom refusal (Refused k p) n fits = Refused k p
 
--- what a number says where reading ended, in its range or refused
-abbrev pub said : {A : Type 0} → (says : ℕ → A) → (fits : A → Bool) → End → Number → Got A
-said says fits from n = reached (says (valueOf n)) (endFrom from n (fits (says (valueOf n))))
+-- what a number says where reading ended, if it fits; else the refusal given
+abbrev pub said : {A : Type 0} → (refusal : ℕ) → (says : ℕ → A) → (fits : A → Bool) → End → Number → Got A
+said refusal says fits from n = reached (says (valueOf n)) (endFrom refusal from n (fits (says (valueOf n))))
 
 -- what holds of the place where reading ended, if it was not refused
 abbrev pub Holds : (ℕ → Type 0) → End → Type 0

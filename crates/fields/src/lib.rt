@@ -1,10 +1,11 @@
-// The numbers of the file, each in its range and read from where reading ended: refusals 2 and 3.
+// The numbers of the file, each in its range and read from where reading ended: refusals 2, 3 and 22.
 ghost use mathlib.Core.Path.{_≡_};
 ghost use mathlib.Core.Bool.{_&&_};
 ghost use lib.Dec.{leb};
 ghost use lib.IntN.{pos, negℤ};
 ghost use Rattle.file_numbers.specs.Number.{signedOf};
-ghost use Rattle.road.specs.File.{field, signed, between, inSize};
+ghost use Rattle.days.specs.Day.{isDay};
+ghost use Rattle.road.specs.File.{field, date, signed, between, inSize};
 ghost use Rattle.fields.specs.Ends.{reached, onward, asField, asSigned};
 ghost use Rattle.fields.specs.Standing.{endAt, endFrom, said, Stands, ThreeStand};
 use file_numbers::Number;
@@ -51,9 +52,9 @@ pub fn three_where(file: &[u8], from: End) -> ThreeNumbers
     }
 }
 
-// Refusal 2 or 3 at the number's first byte, where it is at fault or does not fit.
-fn end_at(at: usize, n: Number, fits: bool) -> End
-    ensures { λ r. ⌜ r ≡ endAt at n fits ⌝ }
+// Refusal 2 at the number's first byte, where it is at fault, or the refusal given, where it does not fit.
+fn end_at(at: usize, n: Number, fits: bool, refusal: u32) -> End
+    ensures { λ r. ⌜ r ≡ endAt refusal at n fits ⌝ }
 {
     match n {
         Number::Faulty => End::Refused(2, at),
@@ -61,18 +62,18 @@ fn end_at(at: usize, n: Number, fits: bool) -> End
             if fits {
                 return End::At(next);
             }
-            End::Refused(3, at)
+            End::Refused(refusal, at)
         }
     }
 }
 
 // Where the number ends that stands where reading ended; an earlier refusal stays.
-fn end_from(from: End, n: Number, fits: bool) -> End
-    ensures { λ r. ⌜ r ≡ endFrom from n fits ⌝ }
+fn end_from(from: End, n: Number, fits: bool, refusal: u32) -> End
+    ensures { λ r. ⌜ r ≡ endFrom refusal from n fits ⌝ }
 {
     match from {
         End::Refused(k, p) => End::Refused(k, p),
-        End::At(at) => end_at(at, n, fits),
+        End::At(at) => end_at(at, n, fits, refusal),
     }
 }
 
@@ -108,34 +109,45 @@ pub fn signed_or_blank(value: i32, end: End) -> SignedField
 
 // The value of a number that stands where reading ended, from low to high; a number at fault fits nothing.
 pub fn field_from(from: End, n: Number, low: u32, high: u32) -> Field
-    ensures { λ r. ⌜ r ≡ asField (said (λ v. v) (λ v. leb low v && leb v high) from n) ⌝ }
+    ensures { λ r. ⌜ r ≡ asField (said 3 (λ v. v) (λ v. leb low v && leb v high) from n) ⌝ }
 {
     let Number::Value(value, _) = n else {
-        return field_or_blank(0, end_from(from, n, false));
+        return field_or_blank(0, end_from(from, n, false, 3));
     };
-    let end = end_from(from, n, (low <= value) & (value <= high));
+    let end = end_from(from, n, (low <= value) & (value <= high), 3);
+    field_or_blank(value, end)
+}
+
+// The day that such a number stands for: refusal 22 where it is none.
+fn day_from(from: End, n: Number) -> Field
+    ensures { λ r. ⌜ r ≡ asField (said 22 (λ v. v) isDay from n) ⌝ }
+{
+    let Number::Value(value, _) = n else {
+        return field_or_blank(0, end_from(from, n, false, 22));
+    };
+    let end = end_from(from, n, days::is_day(value), 22);
     field_or_blank(value, end)
 }
 
 // The signed value that such a number was written for, from -low to high.
 pub fn between_from(from: End, n: Number, low: u32, high: u32) -> SignedField
-    ensures { λ r. ⌜ r ≡ asSigned (said signedOf (between (negℤ (pos low)) (pos high)) from n) ⌝ }
+    ensures { λ r. ⌜ r ≡ asSigned (said 3 signedOf (between (negℤ (pos low)) (pos high)) from n) ⌝ }
 {
     let Number::Value(value, _) = n else {
-        return signed_or_blank(0, end_from(from, n, false));
+        return signed_or_blank(0, end_from(from, n, false, 3));
     };
-    let end = end_from(from, n, file_numbers::signed_within(value, low, high));
+    let end = end_from(from, n, file_numbers::signed_within(value, low, high), 3);
     signed_or_blank(file_numbers::signed_of(value), end)
 }
 
 // The same, from low to high in size.
 fn sized_from(from: End, n: Number, low: u32, high: u32) -> SignedField
-    ensures { λ r. ⌜ r ≡ asSigned (said signedOf (inSize low high) from n) ⌝ }
+    ensures { λ r. ⌜ r ≡ asSigned (said 3 signedOf (inSize low high) from n) ⌝ }
 {
     let Number::Value(value, _) = n else {
-        return signed_or_blank(0, end_from(from, n, false));
+        return signed_or_blank(0, end_from(from, n, false, 3));
     };
-    let end = end_from(from, n, file_numbers::size_within(value, low, high));
+    let end = end_from(from, n, file_numbers::size_within(value, low, high), 3);
     signed_or_blank(file_numbers::signed_of(value), end)
 }
 
@@ -144,6 +156,14 @@ pub fn read_field(file: &[u8], from: End, low: u32, high: u32) -> Field
 {
     let n = number_where(file, from);
     field_from(from, n, low, high)
+}
+
+// The date of the contract.
+pub fn read_date(file: &[u8], from: End) -> Field
+    ensures { λ r. ⌜ r ≡ asField (onward date (now (file .entry)) from) ⌝ }
+{
+    let n = number_where(file, from);
+    day_from(from, n)
 }
 
 // A signed value from -low to high.

@@ -4,6 +4,8 @@ use mathlib.Core.List.{List}
 use Prim.Native.Nat.{ℕ}
 use Rattle.file_numbers.specs.Reading.{Got, Reading}
 use Rattle.road.specs.Exact.{blankElement, blankTangent, blankCrossfall}
+use Rattle.road.specs.declared.Contract.{Contract}
+use Rattle.road.specs.declared.Contract.the-variants.{Undated}
 use Rattle.road.specs.declared.Head.{Head}
 use Rattle.road.specs.declared.Element.{Element}
 use Rattle.road.specs.declared.Tangent.{Tangent}
@@ -11,13 +13,17 @@ use Rattle.road.specs.declared.Crossfall.{Crossfall}
 use Rattle.fields.specs.Ends.{onward, Reads, valueOr, endOf}
 use Rattle.fields.specs.Onward.{back}
 use Rattle.fields.specs.declared.End.{End}
+use Rattle.item_fields.specs.declared.ContractRead.{ContractRead}
 use Rattle.item_fields.specs.declared.HeadRead.{HeadRead}
 use Rattle.item_fields.specs.declared.ElementRead.{ElementRead}
 use Rattle.item_fields.specs.declared.TangentRead.{TangentRead}
 use Rattle.item_fields.specs.declared.CrossfallRead.{CrossfallRead}
 
+abbrev pub asContract : Got Contract → ContractRead
+asContract g = record { item = valueOr Undated g; end = endOf g }
+
 abbrev pub blankHead : Head
-blankHead = record { class = 0; terrain = 0; step = 0; ramp = 0 }
+blankHead = record { contract = Undated; class = 0; terrain = 0; step = 0; ramp = 0 }
 
 abbrev pub asHead : Got Head → HeadRead
 asHead g = record { item = valueOr blankHead g; end = endOf g }
@@ -33,6 +39,9 @@ asCrossfall g = record { item = valueOr blankCrossfall g; end = endOf g }
 
 -- each answer says its item and its end
 module _ {s : List ℕ} {from : End} where
+  pub contract-told : {m : Reading Contract} {r : ContractRead} → r ≡ asContract (onward m s from) → Reads m s from (r .item) (r .end)
+  contract-told e = rw e (back Undated)
+
   pub head-told : {m : Reading Head} {r : HeadRead} → r ≡ asHead (onward m s from) → Reads m s from (r .item) (r .end)
   head-told e = rw e (back blankHead)
 

@@ -1,17 +1,24 @@
-// The items of the file, each made of its fields: the head, a plan element, a tangent, a crossfall point.
+// The items of the file, each made of its fields: the contract, the head, a plan element, a tangent, a crossfall point.
 ghost use mathlib.Core.Path.{_≡_};
-ghost use Rattle.road.specs.File.{radius, element, half, tangent, point, headFields};
+ghost use Rattle.road.specs.File.{radius, element, half, tangent, point, contractFields, headFields};
 ghost use Rattle.fields.specs.Ends.{reached, onward, asField, asSigned};
-ghost use Rattle.item_fields.specs.Items.{asElement, asTangent, asCrossfall, asHead};
+ghost use Rattle.item_fields.specs.Items.{asContract, asElement, asTangent, asCrossfall, asHead};
 use fields::End;
 use fields::Field;
 use fields::SignedField;
+use road::Contract;
 use road::Crossfall;
 use road::Element;
 use road::Head;
 use road::Tangent;
 
-// An item, and where reading ended; beside a refusal the item is blank: every number is 0.
+// What stands before the class, and where reading ended; beside a refusal there is no date.
+pub struct ContractRead {
+    pub item: Contract,
+    pub end: End,
+}
+
+// An item, and where reading ended; beside a refusal the item is blank: every number is 0, and there is no date.
 pub struct HeadRead {
     pub item: Head,
     pub end: End,
@@ -165,6 +172,40 @@ pub fn read_crossfall(file: &[u8], from: End) -> CrossfallRead
     crossfall_or_blank(item, end)
 }
 
+fn contract_or_blank(item: Contract, end: End) -> ContractRead
+    ensures { λ r. ⌜ r ≡ asContract (reached item end) ⌝ }
+{
+    match end {
+        End::Refused(k, p) => ContractRead {
+            item: Contract::Undated,
+            end: End::Refused(k, p),
+        },
+        End::At(next) => ContractRead {
+            item,
+            end: End::At(next),
+        },
+    }
+}
+
+// The contract's date where 9 stands before the class; else nothing is read.
+fn read_contract(file: &[u8], from: End) -> ContractRead
+    ensures { λ r. ⌜ r ≡ asContract (onward contractFields (now (file .entry)) from) ⌝ }
+{
+    let layout = fields::read_field(file, from, 9, 9);
+    let after_layout = layout.end;
+    match after_layout {
+        End::Refused(_, _) => ContractRead {
+            item: Contract::Undated,
+            end: from,
+        },
+        End::At(_) => {
+            let date = fields::read_date(file, after_layout);
+            let end = date.end;
+            contract_or_blank(Contract::Dated(date.value), end)
+        }
+    }
+}
+
 // Blank where it ends with a refusal.
 fn head_or_blank(item: Head, end: End) -> HeadRead
     ensures { λ r. ⌜ r ≡ asHead (reached item end) ⌝ }
@@ -172,6 +213,7 @@ fn head_or_blank(item: Head, end: End) -> HeadRead
     match end {
         End::Refused(k, p) => HeadRead {
             item: Head {
+                contract: Contract::Undated,
                 class: 0,
                 terrain: 0,
                 step: 0,
@@ -189,7 +231,9 @@ fn head_or_blank(item: Head, end: End) -> HeadRead
 pub fn read_head(file: &[u8], from: End) -> HeadRead
     ensures { λ r. ⌜ r ≡ asHead (onward headFields (now (file .entry)) from) ⌝ }
 {
-    let class = fields::read_field(file, from, 1, 4);
+    let before = read_contract(file, from);
+    let after_contract = before.end;
+    let class = fields::read_field(file, after_contract, 1, 4);
     let after_class = class.end;
     let terrain = fields::read_field(file, after_class, 1, 3);
     let after_terrain = terrain.end;
@@ -197,7 +241,9 @@ pub fn read_head(file: &[u8], from: End) -> HeadRead
     let after_step = step.end;
     let ramp = fields::read_field(file, after_step, 1, 20000);
     let end = ramp.end;
+    let contract = before.item;
     let item = Head {
+        contract,
         class: class.value,
         terrain: terrain.value,
         step: step.value,

@@ -1,8 +1,4 @@
 -- The struct of a row of limits, as the definitions have it.
-use Prim.Native.Nat.{ℕ}
-use mathlib.Core.List.{[]}
-use lib.ListN.{getD}
-use Rattle.road.specs.Limits.{limitsIn, table}
 use Rattle.road.specs.Limits as road
 use Rattle.limits.specs.declared.Limits.{Limits}
 
@@ -12,7 +8,7 @@ asLimits l = record {
   straightMin = l .«straight_min»;
   radiusMin = l .«radius_min»;
   radiusBoth = l .«radius_both»;
-  parameterMin = l .«parameter_min»;
+  clothoid = l .clothoid;
   arcMin = l .«arc_min»;
   gradeMax = l .«grade_max»;
   sagRadius = l .«sag_radius»;
@@ -22,7 +18,3 @@ asLimits l = record {
   crossfallMax = l .«crossfall_max»;
   crown = l .crown;
 }
-
--- the limits of a row of the table
-unfoldable pub limitsInRow : ℕ → road.Limits
-limitsInRow row = limitsIn (getD table row [])

@@ -1,11 +1,11 @@
-// The rule book's limits as a table of tables: a row for each speed, a column for each limit.
+// The limits of both rule books as tables of tables: a row for each speed, a column for each limit.
 ghost use mathlib.Core.Path.{_≡_};
-ghost use mathlib.Core.List.{[]};
 ghost use Prim.Native.Nat.{_<_};
-ghost use lib.ListN.{getD};
-ghost use Rattle.road.specs.Limits.{speed, table, limitsAt, limitsOf};
-ghost use Rattle.limits.specs.Row.{asLimits, limitsInRow};
+ghost use Rattle.road.specs.Limits.{speed, table, handbook, cell, isOld, radiusMinAt, clothoidAt, limitsAt, limitsOf};
+ghost use Rattle.limits.specs.Row.{asLimits};
+use road::Contract;
 use road::Head;
+use road::LeastClothoid;
 
 // The mark for "-", "no such rule".
 pub const NO_RULE: u32 = 4294967295;
@@ -98,6 +98,20 @@ pub const LIMITS: [[u32; 10]; 7] = [
     ],
 ];
 
+// The old handbook's rows 40 to 100 km/h: R min, least clothoid length; in mm.
+pub const HANDBOOK: [[u32; 2]; 7] = [
+    [45000, 30000],
+    [75000, 40000],
+    [120000, 50000],
+    [180000, 60000],
+    [250000, 70000],
+    [350000, 90000],
+    [450000, 100000],
+];
+
+// The first day of the rule book in force; contracts before it are under the old handbook.
+pub const IN_FORCE_FROM: u32 = 20120101;
+
 // Speed in km/h by terrain 1, 2, 3, classes 1 to 4.
 pub const SPEEDS: [[u32; 3]; 4] = [[100, 100, 80], [100, 80, 70], [80, 60, 50], [60, 50, 40]];
 
@@ -113,7 +127,7 @@ pub struct Limits {
     pub straight_min: u32,
     pub radius_min: u32,
     pub radius_both: u32,
-    pub parameter_min: u32,
+    pub clothoid: LeastClothoid,
     pub arc_min: u32,
     pub grade_max: u32,
     pub sag_radius: u32,
@@ -124,58 +138,73 @@ pub struct Limits {
     pub crown: u32,
 }
 
-// A cell of the table. It alone reads the table: each place that reads a constant table has a copy of it on its stack.
-fn cell(row: usize, column: usize) -> u32
-    requires { ⌜ row < 7 ⌝ ∗ ⌜ column < 10 ⌝ }
-    ensures { λ r. ⌜ r ≡ getD (getD table row []) column 0 ⌝ }
+// A cell of the row of a speed; past the rows it is 0. It alone reads the table: each place that reads a constant table has a copy of it on its stack.
+fn cell(speed: u32, column: usize) -> u32
+    requires { ⌜ column < 10 ⌝ }
+    ensures { λ r. ⌜ r ≡ cell table speed column ⌝ }
 {
-    LIMITS[row][column]
+    let row = (sizes::above(speed, 40) / 10) as usize;
+    if row < 7 { LIMITS[row][column] } else { 0 }
 }
 
-// The limits of a row of the table; past its rows every cell is 0.
-pub fn limits_in(row: usize) -> Limits
-    ensures { λ r. ⌜ asLimits r ≡ limitsInRow row ⌝ }
+// The same of the old handbook.
+fn handbook_cell(speed: u32, column: usize) -> u32
+    requires { ⌜ column < 2 ⌝ }
+    ensures { λ r. ⌜ r ≡ cell handbook speed column ⌝ }
 {
-    if row < 7 {
-        Limits {
-            straight_max: cell(row, 0),
-            straight_min: cell(row, 1),
-            radius_min: cell(row, 2),
-            radius_both: cell(row, 3),
-            parameter_min: cell(row, 4),
-            arc_min: cell(row, 5),
-            grade_max: cell(row, 6),
-            sag_radius: cell(row, 7),
-            crest_radius: cell(row, 8),
-            lane: cell(row, 9),
-            crossfall_min: CROSSFALL_MIN,
-            crossfall_max: CROSSFALL_MAX,
-            crown: CROWN,
-        }
-    } else {
-        Limits {
-            straight_max: 0,
-            straight_min: 0,
-            radius_min: 0,
-            radius_both: 0,
-            parameter_min: 0,
-            arc_min: 0,
-            grade_max: 0,
-            sag_radius: 0,
-            crest_radius: 0,
-            lane: 0,
-            crossfall_min: CROSSFALL_MIN,
-            crossfall_max: CROSSFALL_MAX,
-            crown: CROWN,
-        }
+    let row = (sizes::above(speed, 40) / 10) as usize;
+    if row < 7 { HANDBOOK[row][column] } else { 0 }
+}
+
+// Whether a contract is under the old handbook.
+fn is_old(contract: Contract) -> bool
+    ensures { λ r. ⌜ r ≡ isOld contract ⌝ }
+{
+    match contract {
+        Contract::Undated => false,
+        Contract::Dated(day) => day < IN_FORCE_FROM,
     }
 }
 
-// The limits at a speed.
-pub fn limits_at(speed: u32) -> Limits
-    ensures { λ r. ⌜ asLimits r ≡ limitsAt speed ⌝ }
+fn radius_min_at(speed: u32, old: bool) -> u32
+    ensures { λ r. ⌜ r ≡ radiusMinAt speed old ⌝ }
 {
-    limits_in((sizes::above(speed, 40) / 10) as usize)
+    if old {
+        return handbook_cell(speed, 0);
+    }
+    cell(speed, 2)
+}
+
+fn clothoid_at(speed: u32, old: bool) -> LeastClothoid
+    ensures { λ r. ⌜ r ≡ clothoidAt speed old ⌝ }
+{
+    if old {
+        return LeastClothoid::Length(handbook_cell(speed, 1));
+    }
+    LeastClothoid::Parameter(cell(speed, 4))
+}
+
+// The limits at a speed under a contract.
+pub fn limits_at(speed: u32, contract: Contract) -> Limits
+    ensures { λ r. ⌜ asLimits r ≡ limitsAt speed contract ⌝ }
+{
+    let old = is_old(contract);
+    let clothoid = clothoid_at(speed, old);
+    Limits {
+        straight_max: cell(speed, 0),
+        straight_min: cell(speed, 1),
+        radius_min: radius_min_at(speed, old),
+        radius_both: cell(speed, 3),
+        clothoid,
+        arc_min: cell(speed, 5),
+        grade_max: cell(speed, 6),
+        sag_radius: cell(speed, 7),
+        crest_radius: cell(speed, 8),
+        lane: cell(speed, 9),
+        crossfall_min: CROSSFALL_MIN,
+        crossfall_max: CROSSFALL_MAX,
+        crown: CROWN,
+    }
 }
 
 // The speed of a class and a terrain; 0 past the table.
@@ -195,5 +224,6 @@ pub fn speed_of(class: u32, terrain: u32) -> u32
 pub fn limits_of(head: Head) -> Limits
     ensures { λ r. ⌜ asLimits r ≡ limitsOf head ⌝ }
 {
-    limits_at(speed_of(head.class, head.terrain))
+    let contract = head.contract;
+    limits_at(speed_of(head.class, head.terrain), contract)
 }

@@ -1,14 +1,14 @@
 // The rules of the plan: tests of an element with those beside it.
 ghost use mathlib.Core.Path.{_≡_};
 ghost use Prim.Native.Nat.{_+_, _≤_};
-ghost use mathlib.Core.Bool.{false};
 ghost use Rattle.limits.specs.Row.{asLimits};
 ghost use Rattle.road.specs.declared.ElementRule.{ElementRule};
-ghost use Rattle.road.specs.Rules.{wrongKind, longStraight, shortStraight, tightArc, shortArc, ownArc, shortClothoid, elementTest};
+ghost use Rattle.road.specs.Rules.{wrongKind, longStraight, shortStraight, tightArc, shortArc, ownArc, tooShort, shortClothoid, elementTest};
 ghost use Rattle.plan_rules.specs.Any.{anyBroken};
 use limits::Limits;
 use road::Element;
 use road::ElementRule;
+use road::LeastClothoid;
 
 // The plan length that a road may have; no limit of the rule book.
 pub const LONGEST: u64 = 100000000;
@@ -69,12 +69,22 @@ fn own_arc(before: Element, after: Element) -> i32
     }
 }
 
+// Whether a clothoid of a length beside an arc of a radius falls short of what is asked of it.
+fn is_too_short(least: LeastClothoid, length: u32, radius: u32) -> bool
+    ensures { λ r. ⌜ r ≡ tooShort least length radius ⌝ }
+{
+    match least {
+        LeastClothoid::Parameter(a) => sizes::product(length, radius) < sizes::product(a, a),
+        LeastClothoid::Length(shortest) => length < shortest,
+    }
+}
+
 fn is_short_clothoid(l: Limits, before: Element, e: Element, after: Element) -> bool
     ensures { λ r. ⌜ r ≡ shortClothoid (asLimits l) before e after ⌝ }
 {
     let radius = sizes::size(own_arc(before, after));
-    (e.kind == 2)
-        & (sizes::product(e.length, radius) < sizes::product(l.parameter_min, l.parameter_min))
+    let least = l.clothoid;
+    (e.kind == 2) & is_too_short(least, e.length, radius)
 }
 
 // ---- the table

@@ -10,8 +10,8 @@ use lib.ListN.{length}
 use Rattle.road.specs.Base.{firstThat, sumOf}
 use Rattle.road.specs.File.{Road}
 use Rattle.road.specs.Limits.{Limits}
-use Rattle.road.specs.Exact.{blankElement, elementOf, tangentOf, pointOf, elementStart, total}
-use Rattle.road.specs.Rules.{ElementAmong, TangentAmong, PointAmong, elementTest, roadTest, firstBroken, elementBefore, elementAmong, tangentBefore, tangentAmong, pointBefore, pointAmong}
+use Rattle.road.specs.Exact.{blankElement, elementOf, tangentOf, pointOf, elementStart, total, tangentBefore}
+use Rattle.road.specs.Rules.{ElementAmong, TangentAmong, PointAmong, elementTest, roadTest, firstBroken, elementBefore, elementAmong, tangentAmong, pointBefore, pointAmong}
 use Rattle.laws_of_acceptance.specs.Lists.{element-step, Sums, sums-start, sums-on}
 use Rattle.road.specs.declared.Element.{Element}
 use Rattle.road.specs.declared.Tangent.{Tangent}

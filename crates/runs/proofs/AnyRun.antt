@@ -22,7 +22,7 @@ use Rattle.road.specs.declared.NextAnswer.{NextAnswer}
 use Rattle.road.specs.declared.RowAnswer.the-variants as Row
 use Rattle.road.specs.declared.NextAnswer.the-variants as Next
 use Rattle.road.specs.Machine.{Answer, refusal, wrote, ofRow, ofNext, rowOn, rowAnswer, rowBuffer, stationOr, nextOn, nextAnswer, Call, row, next, After, step, trace}
-use Rattle.road.specs.Blade.{rowsOf}
+use Rattle.road.specs.Demand.{rowsOf}
 use Rattle.road.specs.Listing.{listingCalls}
 use Rattle.stationing.proofs.row.Reads as row-says
 use Rattle.stationing.proofs.row.Kinds as row-kinds

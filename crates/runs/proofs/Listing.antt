@@ -11,12 +11,11 @@ use Rattle.road.specs.Exact.{total}
 use Rattle.road.specs.Listed.{stations, listed}
 use Rattle.road.specs.Rules.{accepted}
 use Rattle.road.specs.Machine.{After, trace}
-use Rattle.road.specs.Blade.{rowsOf}
+use Rattle.road.specs.Demand.{rowsOf}
 use Rattle.road.specs.Listing.{listingCalls, listingRows}
-use Rattle.laws_of_acceptance.specs.Positive.{accepted-road}
+use Rattle.laws_of_acceptance.specs.Positive.{accepted-road, facts}
 use Rattle.laws_of_lists.specs.All.{All}
 use Rattle.laws_of_lists.specs.All as all
-use Rattle.laws_of_acceptance.specs.Facts.{facts}
 use Rattle.laws_of_stations.specs.Stations.{stations-inside}
 use Rattle.laws_of_search.specs.Ascends.{Ascends, empty, ascending-ascends, ascending-all}
 use Rattle.laws_of_search.specs.Ascends as A

@@ -8,7 +8,7 @@ use native.Mathlib.Nat.{suc-mul, zero-mul, add-comm}
 use lib.ListN.{length, take, drop, getD, length-map}
 use lib.Seq.{drop-drop}
 use Rattle.road.specs.Machine.{Call, row, next, Answer, refusal, wrote, station, noStation, After, trace}
-use Rattle.road.specs.Blade.{Row, rowIn, rowsOf, BladeClose}
+use Rattle.road.specs.Demand.{Row, rowIn, rowsOf, BladeClose}
 use Rattle.laws_of_blade.specs.Demand.{demand-3}
 use Rattle.runs.specs.Answers.{code, first, second, answerOf}
 use Rattle.runs.specs.Calls.{callOf, callsOf, runOf}

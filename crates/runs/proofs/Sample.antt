@@ -7,7 +7,8 @@ use lib.ListN.{getD, replicate}
 use Rattle.integers.specs.Fraction.{_-ᶠ_, size, _≤ᶠ_}
 use Rattle.road.specs.Text.{printedLine}
 use Rattle.road.specs.Exact.{Side, edge}
-use Rattle.road.specs.Blade.{Row, Neighbouring, printedHeight, blade, bound}
+use Rattle.road.specs.Blade.{Neighbouring, blade, bound}
+use Rattle.road.specs.Demand.{Row, printedHeight}
 use Rattle.road.specs.Sample.{file, road, sample-accepted}
 use Rattle.road.specs.Compute.{computed}
 use Rattle.laws_of_blade.specs.Neighbours.{listed-neighbouring}

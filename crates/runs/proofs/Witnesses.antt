@@ -10,7 +10,8 @@ use Rattle.file_numbers.specs.Reading.{got, refused}
 use Rattle.road.specs.File.{Road}
 use Rattle.integers.specs.Fraction.{_-ᶠ_, size, _≤ᶠ_}
 use Rattle.road.specs.Exact.{Side, total, edge}
-use Rattle.road.specs.Blade.{printedHeight, blade, bound}
+use Rattle.road.specs.Blade.{blade, bound}
+use Rattle.road.specs.Demand.{printedHeight}
 use Rattle.road.specs.Listed.{listed}
 use Rattle.road.specs.Line.{line}
 use Rattle.road.specs.Rules.{accepted}

@@ -8,7 +8,7 @@ use Rattle.road.specs.File.{Road}
 use Rattle.road.specs.Exact.{total}
 use Rattle.road.specs.Listed.{listed}
 use Rattle.road.specs.Rules.{accepted}
-use Rattle.road.specs.Blade.{Row, rowsOf}
+use Rattle.road.specs.Demand.{Row, rowsOf}
 use Rattle.road.specs.Listing.{listingCalls}
 use Rattle.laws_of_stations.specs.Visits.{rowAt}
 use Rattle.runs.specs.Calls.{callsOf}

@@ -9,7 +9,8 @@ use Rattle.road.specs.File.{Road}
 use Rattle.road.specs.Exact.{Side, edge}
 use Rattle.road.specs.Rules.{accepted}
 use Rattle.road.specs.Machine.{Call, After, refusal}
-use Rattle.road.specs.Blade.{Row, rowsOf, printedHeight, Neighbouring, blade, bound}
+use Rattle.road.specs.Blade.{Neighbouring, blade, bound}
+use Rattle.road.specs.Demand.{Row, rowsOf, printedHeight}
 use Rattle.runs.specs.Recorded.{seenIn}
 
 -- demand 3's claim of two rows: where they are neighbouring, at each whole station, their own included, and at either edge

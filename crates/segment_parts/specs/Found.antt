@@ -9,8 +9,7 @@ use lib.ListN.{length}
 use lib.IntN.{ℤ, pos, _+ℤ_, _-ℤ_, _*ℤ_}
 use Rattle.integers.specs.Ring.{_:+_, _:-_, _:*_, ring, $}
 use Rattle.road.specs.File.{Road}
-use Rattle.road.specs.Exact.{tangentOf, tangentStart, halfLength}
-use Rattle.road.specs.Rules.{halfBefore}
+use Rattle.road.specs.Exact.{tangentOf, tangentStart, halfLength, halfBefore}
 use Rattle.road.specs.declared.Tangent.{Tangent}
 use Rattle.laws_of_acceptance.specs.Guaranteed.{Guaranteed}
 use Rattle.segment_parts.specs.declared.TangentPlace.{TangentPlace}

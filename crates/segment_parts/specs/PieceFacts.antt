@@ -10,8 +10,7 @@ use lib.IntN.{pos, natAbs, _+ℤ_, _-ℤ_, _*ℤ_}
 use lib.Signed.{_≤ℤ_}
 use Rattle.integers.specs.Bridge.{nat, _⊖_, le!, abs-product, abs-sum, abs-difference}
 use Rattle.road.specs.File.{Road}
-use Rattle.road.specs.Exact.{tangentOf, tangentStart, total, vertexCount, vertex, halfLength, from_to_}
-use Rattle.road.specs.Rules.{halfBefore}
+use Rattle.road.specs.Exact.{tangentOf, tangentStart, total, vertexCount, vertex, halfLength, from_to_, halfBefore}
 use Rattle.road.specs.Listed.{stations}
 use Rattle.laws_of_acceptance.specs.Lists.{tangent-step}
 use Rattle.laws_of_search.specs.Last.{Rising, rises-to, begun-before}

@@ -5,8 +5,7 @@ use Prim.Native.Nat.{ℕ, suc, _+_, _*_, _-_, _≤_, _<_}
 use lib.ListN.{length}
 use lib.IntN.{ℤ, pos, _+ℤ_, _-ℤ_, _*ℤ_}
 use Rattle.road.specs.File.{Road}
-use Rattle.road.specs.Exact.{tangentOf, tangentStart, vertexCount, vertex, halfLength}
-use Rattle.road.specs.Rules.{halfBefore}
+use Rattle.road.specs.Exact.{tangentOf, tangentStart, vertexCount, vertex, halfLength, halfBefore}
 use Rattle.road.specs.declared.Tangent.{Tangent}
 use Rattle.laws_of_search.specs.Last.{Begun}
 use Rattle.segment_parts.specs.Tangents.{heightStart}

@@ -11,7 +11,8 @@ use Rattle.integers.specs.Ring.{_:+_, _:-_, _:*_, #, ring, $}
 use Rattle.integers.specs.Fraction.{_÷_, _≈ᶠ_}
 use Rattle.integers.specs.Values.{_then_, mul-value}
 use Rattle.road.specs.File.{Road}
-use Rattle.road.specs.Exact.{elementOf, pointOf, elementStart, total, Side, left, right, crossfallBy, crossfall, edgeDrop, curvature, from_to_, laneWidth}
+use Rattle.road.specs.Exact.{elementOf, pointOf, elementStart, total, Side, left, right, crossfallBy, crossfall, edgeDrop, curvature, from_to_}
+use Rattle.road.specs.Lane.{laneWidth}
 use Rattle.laws_of_acceptance.specs.Lists.{element-step}
 use Rattle.laws_of_search.specs.Last.{Begun, begun-upto}
 use Rattle.laws_of_acceptance.specs.Facts.{points-end}

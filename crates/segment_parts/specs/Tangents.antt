@@ -6,8 +6,7 @@ use lib.ListN.{length, take}
 use lib.IntN.{ℤ, pos, natAbs, _+ℤ_, _*ℤ_, +ℤ-assoc}
 use Rattle.integers.specs.Bridge.{abs-product, abs-sum}
 use Rattle.road.specs.File.{Road}
-use Rattle.road.specs.Exact.{tangentOf, tangentStart, rise}
-use Rattle.road.specs.Rules.{halfBefore}
+use Rattle.road.specs.Exact.{tangentOf, tangentStart, rise, halfBefore}
 use Rattle.laws_of_acceptance.specs.Lists.{tangent-step}
 use Rattle.road.specs.declared.Tangent.{Tangent}
 use Rattle.laws_of_search.specs.Last.{Begun}

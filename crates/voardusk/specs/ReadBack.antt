@@ -1,10 +1,10 @@
 -- The numbers of a call say its answer: no refusal has the number 0, and no station is the mark for none.
-use mathlib.Core.Path.{_≡_, refl, ap, _∙_}
+use mathlib.Core.Path.{_≡_, refl, ap}
 use mathlib.Core.Bool.{Bool, true, false}
 use mathlib.Core.List.{List}
 use mathlib.Core.Logic.{_⊎_, inl, inr}
 use mathlib.Core.Option.{Option}
-use Prim.Native.Nat.{ℕ, zero, suc, _≤_, _<_}
+use Prim.Native.Nat.{ℕ, zero, suc, _≤_}
 use native.Mathlib.Omega.{arith}
 use borrow.Author.Tests.{ne-eqb}
 use lib.Dec.{ltb, eqb}
@@ -20,7 +20,7 @@ use Rattle.road.specs.Rules.{accepted}
 use Rattle.road.specs.Machine.{Answer, refusal, wrote, station, noStation, rowOn, rowAnswer, stationOr, nextOn, nextAnswer}
 use Rattle.laws_of_acceptance.specs.Guaranteed.{Guaranteed, guaranteed}
 use Rattle.laws_of_stations.specs.Next.{Least, least, nothing, next-least, listed-has}
-use Rattle.laws_of_acceptance.specs.Refusals.{ByRule, refused-iff, read-number, rule-number}
+use Rattle.laws_of_acceptance.specs.Refusals.{ByRule, refused-iff, read-number, rule-number, WithinOrDate}
 use Rattle.walk.specs.FittingRows.{chunk, onward, answer}
 use Rattle.walk.specs.Inside.{listed-inside}
 use Rattle.walk.specs.AllChunks.{onward-listed}
@@ -47,9 +47,13 @@ listSaid (suc k) p s = turnedAway (suc k) p
 number-above : (f : List ℕ) (n p : ℕ) → accepted f ≡ refused n p → 1 ≤ n
 number-above f n p e = go (refused-iff f n p .0 e)
   where
+    by-reading : WithinOrDate 1 4 n → 1 ≤ n
+    by-reading (inl w) = w .low
+    by-reading (inr e) = omega arith
+
     go : (read f ≡ refused n p) ⊎ ByRule f n p → 1 ≤ n
-    go (inl r) = read-number f n p r .low
-    go (inr b) = omega (arith, rule-number (limits (b .road)) (b .road) (b .lowest))
+    go (inl r) = by-reading (read-number f n p r)
+    go (inr b) = omega (arith, rule-number (limits (b .road)) (b .road) (b .lowest) .low)
 
 row-refusal : (n p : ℕ) → 1 ≤ n → rowSaid n p ≡ refusal n p
 row-refusal zero p h = absurd (omega arith)

@@ -13,7 +13,7 @@ use Rattle.road.specs.Listed.{listed}
 use Rattle.road.specs.Rules.{accepted}
 use Rattle.road.specs.Line.{line}
 use Rattle.road.specs.Machine.{overwrite}
-use Rattle.road.specs.Blade.{Row}
+use Rattle.road.specs.Demand.{Row}
 use Rattle.road.specs.Listing.{listingRows, output, listing, listBy, listOf}
 use Rattle.laws_of_search.specs.Ascends.{Ascends, step}
 use Rattle.laws_of_acceptance.specs.Guaranteed.{Guaranteed, guaranteed}

@@ -1,5 +1,5 @@
 -- A file that does not read keeps its refusal; one that reads is judged under the limits of its head, and gives that verdict's refusal or its road.
-use Rattle.road.specs.Exact.{laneWidth}
+use Rattle.road.specs.Lane.{laneWidth}
 use mathlib.Core.Path.{_≡_, sym, ap, _∙_}
 use borrow.Author.Needs.{needs}
 use denote.Ref.{now}

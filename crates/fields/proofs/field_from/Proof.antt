@@ -13,7 +13,7 @@ returns : tie.Need-returns
 returns c =
     let a = c .before .before .before .before .args in
     let fault = c .before .before .enum-told .given .1 in
-    rw fault (simp (c .before .end-from .ensures, fault) at (c .field-or-blank .ensures) ∙ ap asField (at-fault 0 (λ (v : ℕ). v) (λ (v : ℕ). leb (a .low) v && leb v (a .high)) (a .from)))
+    rw fault (simp (c .before .end-from .ensures, fault) at (c .field-or-blank .ensures) ∙ ap asField (at-fault 3 0 (λ (v : ℕ). v) (λ (v : ℕ). leb (a .low) v && leb v (a .high)) (a .from)))
 
 returns-2 : tie.Need-returns-2
 returns-2 c =

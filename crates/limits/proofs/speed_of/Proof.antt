@@ -1,7 +1,7 @@
 -- The cell of the table; past its classes or its terrains the speed is 0.
 use Prim.Native.Nat.{_-_}
-use Rattle.road.specs.Limits.{speed}
-use Rattle.limits.proofs.Laws.{past-classes, past-terrains}
+use Rattle.road.specs.Limits.{speeds, speed}
+use Rattle.limits.proofs.Laws.{past-rows, past-terrains}
 use borrow.Author.Needs.{needs}
 use Rattle.limits.proofs.speed_of.Statement.{statement}
 use Rattle.limits.proofs.speed_of.Tie as tie
@@ -16,7 +16,7 @@ returns-2 c = past-terrains (c .before .before .before .before .args .class - 1)
 
 returns-3 : tie.Need-returns-3
 unfolding speed
-returns-3 c = past-classes (c .before .before .before .args .class - 1) (c .before .before .before .args .terrain - 1) (rw (c .before .before .above .ensures) at (c .if1 .left))
+returns-3 c = past-rows speeds (c .before .before .before .args .class - 1) (c .before .before .before .args .terrain - 1) (rw (c .before .before .above .ensures) at (c .if1 .left))
 
 pub speed-of-spec : {M : Type 1} → statement M
 speed-of-spec =

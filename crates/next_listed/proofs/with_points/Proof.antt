@@ -1,8 +1,9 @@
 -- One point after another.
-use mathlib.Core.Path.{sym, ap, _∙_}
+use mathlib.Core.Path.{_≡_, sym, ap, _∙_}
 use mathlib.Core.List.{_∷_, [], List}
 use mathlib.Core.Option.{none}
 use Prim.Native.Nat.{ℕ, _-_}
+use lib.ListN.{length}
 use borrow.Author.Needs.{needs}
 use Rattle.road.specs.Exact.{pointOf, blankCrossfall}
 use Rattle.road.specs.Listed.{counted}
@@ -20,6 +21,9 @@ Inv-loop a s crossfalls least₀ i₀ least i = Counting s (λ k. pointOf (roadI
 abbrev μ-loop : tie.MeasureT-loop
 μ-loop a s crossfalls least₀ i₀ least i = a .«crossfall_count» - i
 
+count : (c : tie.Start Inv-loop μ-loop) → length (roadIn (c .args .a) .crossfalls) ≡ c .args .a .«crossfall_count»
+count c = point-count (c .args .a) (c .pre) (search (needs, unmapped))
+
 loop-holds : tie.Need-loop-holds Inv-loop μ-loop
 loop-holds c = counting-starts _ _ _ none
 
@@ -36,7 +40,7 @@ returns : tie.Need-returns Inv-loop μ-loop
 returns c =
     let s = c .before .before .before .before in
     let a = s .args .a in
-    counting-ends _ _ _ (c .before .before .loop .inv) (c .if1 .left) (point-count a (s .pre) (search (needs, unmapped)))
+    counting-ends _ _ _ (c .before .before .loop .inv) (c .if1 .left) (count s)
     ∙ ap (λ (l : List ℕ). leastWith (s .args .s) l none) (sym (items-joined (λ (p : Crossfall). p .station) blankCrossfall (roadIn a .crossfalls)))
 
 pub with-points-spec : {M : Type 1} → statement M

@@ -4,10 +4,10 @@ use Prim.Native.Nat.{_-_}
 use native.Mathlib.Omega.{arith}
 use borrow.Author.Needs.{needs}
 use lib.ListN.{length, getD}
-use Rattle.road.specs.Exact.{blankTangent, tangentOf}
+use Rattle.road.specs.Exact.{blankTangent, tangentOf, tangentBefore}
 use Rattle.road.specs.Held.{roadIn}
 use Rattle.laws_of_acceptance.specs.Lists.{unmapped, tangent-item, tangent-count, next-or}
-use Rattle.road.specs.Rules.{TangentAmong, tangentTest, tangentBefore, tangentAmong}
+use Rattle.road.specs.Rules.{TangentAmong, tangentTest, tangentAmong}
 use Rattle.road.specs.declared.Alignment.{Alignment}
 use Rattle.road.specs.declared.Rule.the-variants as rule
 use Rattle.limits.specs.Row.{asLimits}
