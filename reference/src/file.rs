@@ -1,4 +1,6 @@
-//! "The file": numbers, fields in order with their ranges, refusals 1 to 4.
+//! "The file": numbers, fields in order with their ranges, refusals 1 to 4 and 22.
+
+use crate::day::is_day;
 
 /// "The answer is the number and a place, counted from 0."
 #[derive(Clone, Copy, Debug, PartialEq, Eq)]
@@ -38,9 +40,18 @@ pub struct CrossfallPoint {
     pub right: i128,
 }
 
+/// "A file beginning with 9 has the contract date next"; any other file has none.
+#[derive(Clone, Copy, Debug, PartialEq, Eq)]
+pub enum Contract {
+    Undated,
+    /// Year x 10,000 + month x 100 + day.
+    Dated(i128),
+}
+
 /// "An alignment is held as three lists with their counts."
 #[derive(Clone, Debug)]
 pub struct Alignment {
+    pub contract: Contract,
     pub class: i128,
     pub terrain: i128,
     pub step: i128,
@@ -60,6 +71,9 @@ impl Alignment {
 
 /// "The greatest number is 4,294,967,295."
 pub const GREATEST_NUMBER: i128 = 4_294_967_295;
+
+/// "A file beginning with 9 has the contract date next".
+pub const DATED_LAYOUT: i128 = 9;
 
 /// "The file has more than 8,192 bytes"
 pub const LONGEST_FILE: usize = 8_192;
@@ -149,6 +163,28 @@ impl Reader<'_> {
         Ok(value)
     }
 
+    /// "A file beginning with 9 has the contract date next [..] and then the layout we have from class onward."
+    /// Any other first number is the class: the reading place stays before it.
+    fn contract(&mut self) -> Result<Contract, Refusal> {
+        let first = self.place;
+        if self.number()? == DATED_LAYOUT {
+            return Ok(Contract::Dated(self.date()?));
+        }
+        self.place = first;
+        Ok(Contract::Undated)
+    }
+
+    /// "A date that is no Gregorian day from 19500101 to 20991231 is refused with 22 as it is read, before any
+    /// later number, its place being the date's first byte."
+    fn date(&mut self) -> Result<i128, Refusal> {
+        let first = self.place;
+        let date = self.number()?;
+        if !is_day(date) {
+            return Err(no_day(first));
+        }
+        Ok(date)
+    }
+
     /// "for an arc a signed radius, 10,000 to 10,000,000 in size"
     fn radius(&mut self) -> Result<i128, Refusal> {
         let first = self.place;
@@ -209,7 +245,14 @@ fn outside_range(first: usize) -> Refusal {
     }
 }
 
-/// Reads an alignment file; refusals 1 to 4.
+fn no_day(first: usize) -> Refusal {
+    Refusal {
+        number: 22,
+        place: first as i128,
+    }
+}
+
+/// Reads an alignment file; refusals 1 to 4 and 22.
 pub fn read(bytes: &[u8]) -> Result<Alignment, Refusal> {
     // "1 is tried before any number is read"
     if bytes.len() > LONGEST_FILE {
@@ -219,6 +262,7 @@ pub fn read(bytes: &[u8]) -> Result<Alignment, Refusal> {
         });
     }
     let mut reader = Reader { bytes, place: 0 };
+    let contract = reader.contract()?;
     let class = reader.number_within(1, 4)?;
     let terrain = reader.number_within(1, 3)?;
     let step = reader.number_within(1_000, 100_000)?;
@@ -249,6 +293,7 @@ pub fn read(bytes: &[u8]) -> Result<Alignment, Refusal> {
         });
     }
     Ok(Alignment {
+        contract,
         class,
         terrain,
         step,

@@ -131,7 +131,7 @@ pub fn crossfall(
 
 /// "The drop is crossfall x lane width / 10^6, from the exact crossfall."
 pub fn drop(alignment: &Alignment, station: i128, side: fn(&CrossfallPoint) -> i128) -> Fraction {
-    let lane_width = limits(alignment.class, alignment.terrain).lane_width;
+    let lane_width = limits(alignment).lane_width;
     crossfall(alignment, station, side).times(Fraction::new(lane_width, MILLION))
 }
 

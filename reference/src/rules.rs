@@ -5,12 +5,12 @@
 
 use crate::file::{Alignment, CrossfallPoint, Element, Kind, Refusal};
 use crate::fraction::Fraction;
-use crate::limits::{limits, Limits};
+use crate::limits::{limits, LeastClothoid, Limits};
 use crate::road;
 
 struct Rule {
     number: i128,
-    /// The rules without which this one has no meaning.
+    /// The rules without which this one has no meaning, by today's rule book.
     rests_on: &'static [i128],
     broken_at: fn(&Alignment, &Limits) -> Vec<usize>,
 }
@@ -47,7 +47,7 @@ const RULES: [Rule; 15] = [
 
 /// "from 5 on, the lowest refusal wins, then the first item"
 pub fn judge(alignment: &Alignment) -> Result<(), Refusal> {
-    let limits = limits(alignment.class, alignment.terrain);
+    let limits = limits(alignment);
     for rule in &RULES {
         if let Some(&place) = (rule.broken_at)(alignment, &limits).first() {
             return Err(refusal(rule.number, place));
@@ -70,13 +70,21 @@ pub struct Judgement {
     pub not_asked: Vec<i128>,
 }
 
+/// A least clothoid length needs no arc, so it can be asked of elements in any order.
+fn rests_on(rule: &Rule, limits: &Limits) -> &'static [i128] {
+    match (rule.number, limits.clothoid) {
+        (12, LeastClothoid::Length(_)) => &[],
+        _ => rule.rests_on,
+    }
+}
+
 /// Every broken rule at once; the first of them is the one that turns the file away.
 pub fn judge_all(alignment: &Alignment) -> Judgement {
-    let limits = limits(alignment.class, alignment.terrain);
+    let limits = limits(alignment);
     let mut judgement = Judgement::default();
     for rule in &RULES {
         let is_broken = |number: &i128| judgement.broken.iter().any(|r| r.number == *number);
-        if rule.rests_on.iter().any(is_broken) {
+        if rests_on(rule, &limits).iter().any(is_broken) {
             judgement.not_asked.push(rule.number);
             continue;
         }
@@ -191,12 +199,16 @@ fn arc_too_short(alignment: &Alignment, limits: &Limits) -> Vec<usize> {
 }
 
 /// Refusal 12: "A clothoid's length times its arc's unsigned radius is below A min squared (place:
-/// element)."
+/// element)"; by the old handbook its length alone is below the least clothoid length.
 fn clothoid_too_short(alignment: &Alignment, limits: &Limits) -> Vec<usize> {
-    let squared = limits.clothoid_parameter_min * limits.clothoid_parameter_min;
     all_of_kind(alignment, Kind::Clothoid, |place, clothoid| {
-        let radius = road::arc_of_clothoid(alignment, place).radius;
-        clothoid.length * radius.abs() < squared
+        match limits.clothoid {
+            LeastClothoid::Parameter(parameter) => {
+                let radius = road::arc_of_clothoid(alignment, place).radius;
+                clothoid.length * radius.abs() < parameter * parameter
+            }
+            LeastClothoid::Length(length) => clothoid.length < length,
+        }
     })
 }
 

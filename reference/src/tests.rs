@@ -1,4 +1,7 @@
-//! The starred items and the sample list of document 01.
+//! The starred items and the sample list of document 01, and request A.1.
+
+mod contract_date;
+mod two_rule_books;
 
 use crate::file::{read, Refusal};
 use crate::fraction::Fraction;
@@ -54,12 +57,18 @@ fn two_tangents(grade: i64, half_length: u64, next_grade: i64) -> Vec<u8> {
 
 /// One bend at 40 km/h, superelevated throughout.
 fn one_bend(radius: i64, clothoid: u64) -> Vec<u8> {
-    let length = 50_000 + 2 * clothoid + 30_000 + 50_000;
+    one_bend_of(&[4, 3], radius, clothoid)
+}
+
+/// One bend of a road that begins with the numbers given, up to its terrain.
+fn one_bend_of(beginning: &[u64], radius: i64, clothoid: u64) -> Vec<u8> {
+    let length = 50_000 + 2 * clothoid + 60_000 + 50_000;
     let (left, right) = (signed(25_000), signed(-25_000));
     file(&[
-        &[4, 3, 50_000, 5_000],
+        beginning,
+        &[50_000, 5_000],
         &[5, 0, 50_000, 2, clothoid],
-        &[1, 30_000, signed(radius)],
+        &[1, 60_000, signed(radius)],
         &[2, clothoid, 0, 50_000],
         &[signed(0), 1, length, signed(0)],
         &[2, 0, left, right, length, left, right],
@@ -138,7 +147,7 @@ fn halves_go_to_the_greater_number() {
 fn curvature_halfway() {
     let alignment = accept(&one_bend(50_000, 30_000)).unwrap();
     assert_eq!(road::curvature(&alignment, 65_000).rounded(), 10_000);
-    assert_eq!(road::curvature(&alignment, 125_000).rounded(), 10_000);
+    assert_eq!(road::curvature(&alignment, 155_000).rounded(), 10_000);
 }
 
 #[test]

@@ -1,4 +1,4 @@
-//! The library against document 01 read a second time, on files made from a seed.
+//! The library against the papers read a second time, on files made from a seed.
 
 #![forbid(unsafe_code)]
 
@@ -70,7 +70,7 @@ fn compare_index(options: &Options, index: u64, summary: &mut Summary) -> Result
         keep(options, index, &made);
         return Err(describe(options, index, &made, "a panic, told above"));
     };
-    summary.count_file(made.kind, &verdict);
+    summary.count_file(&made, &verdict);
     if let Some((edge, outside)) = made.edge {
         summary.edges[edge][usize::from(outside)] += 1;
     }

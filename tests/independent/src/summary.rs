@@ -4,18 +4,20 @@ use std::fmt;
 
 use crate::generate::edges::EDGES;
 use crate::generate::features::{features, FEATURES};
-use crate::generate::{FileKind, FILE_KINDS};
+use crate::generate::{MadeFile, FILE_KINDS};
 use reference::file::{Alignment, Refusal};
 
 pub struct Summary {
     pub files: u64,
     pub files_of_kind: [u64; FILE_KINDS.len()],
+    /// Files beginning with 9.
+    pub dated_of_kind: [u64; FILE_KINDS.len()],
     pub accepted_of_kind: [u64; FILE_KINDS.len()],
     /// Files not turned away that have each feature.
     pub features: [u64; FEATURES.len()],
     /// By refusal number.
-    pub refused_files: [u64; 22],
-    pub refused_calls: [u64; 22],
+    pub refused_files: [u64; 23],
+    pub refused_calls: [u64; 23],
     /// Files inside and outside of each limit.
     pub edges: [[u64; 2]; EDGES.len()],
     pub row_calls: u64,
@@ -33,10 +35,11 @@ impl Summary {
         Summary {
             files: 0,
             files_of_kind: [0; FILE_KINDS.len()],
+            dated_of_kind: [0; FILE_KINDS.len()],
             accepted_of_kind: [0; FILE_KINDS.len()],
             features: [0; FEATURES.len()],
-            refused_files: [0; 22],
-            refused_calls: [0; 22],
+            refused_files: [0; 23],
+            refused_calls: [0; 23],
             edges: [[0; 2]; EDGES.len()],
             row_calls: 0,
             next_calls: 0,
@@ -49,14 +52,15 @@ impl Summary {
         }
     }
 
-    /// Counts a file of a kind, and what the paper says of it.
-    pub fn count_file(&mut self, kind: FileKind, verdict: &Result<Alignment, Refusal>) {
-        let named = |place: &usize| FILE_KINDS[*place].0 == kind;
+    /// Counts a file, and what the papers say of it.
+    pub fn count_file(&mut self, made: &MadeFile, verdict: &Result<Alignment, Refusal>) {
+        let named = |place: &usize| FILE_KINDS[*place].0 == made.kind;
         let place = (0..FILE_KINDS.len())
             .find(named)
             .expect("a kind with a name");
         self.files += 1;
         self.files_of_kind[place] += 1;
+        self.dated_of_kind[place] += u64::from(made.bytes.first() == Some(&9));
         match verdict {
             Err(refusal) => self.refused_files[refusal.number as usize] += 1,
             Ok(road) => {
@@ -75,15 +79,18 @@ impl Summary {
 
 impl fmt::Display for Summary {
     fn fmt(&self, to: &mut fmt::Formatter<'_>) -> fmt::Result {
-        writeln!(to, "kind            files  accepted")?;
+        writeln!(to, "kind            files     dated  accepted")?;
         for (place, (_, name, _)) in FILE_KINDS.iter().enumerate() {
-            let (files, accepted) = (self.files_of_kind[place], self.accepted_of_kind[place]);
-            writeln!(to, "  {name:<10} {files:>9} {accepted:>9}")?;
+            let (files, dated) = (self.files_of_kind[place], self.dated_of_kind[place]);
+            let accepted = self.accepted_of_kind[place];
+            writeln!(to, "  {name:<10} {files:>9} {dated:>9} {accepted:>9}")?;
         }
+        let files = self.files;
+        let dated: u64 = self.dated_of_kind.iter().sum();
         let accepted: u64 = self.accepted_of_kind.iter().sum();
-        writeln!(to, "  {:<10} {:>9} {accepted:>9}", "all", self.files)?;
+        writeln!(to, "  {:<10} {files:>9} {dated:>9} {accepted:>9}", "all")?;
         writeln!(to, "refusal     files     calls")?;
-        for number in 1..=21 {
+        for number in 1..=22 {
             let (files, calls) = (self.refused_files[number], self.refused_calls[number]);
             writeln!(to, "{number:>7} {files:>9} {calls:>9}")?;
         }

@@ -1,6 +1,7 @@
 //! Bytes that are no road, and roads that no one would build.
 
-use super::numbers::file;
+use super::days::{day_or_none, random_contract};
+use super::numbers::{file, number_bytes};
 use super::random::Random;
 use super::valid::plan::total;
 use super::valid::{divided_up, random_start_height};
@@ -16,24 +17,37 @@ pub fn bytes(random: &mut Random) -> Vec<u8> {
     };
     match random.place(4) {
         0 => random.bytes(length),
-        1 => vec![random.pick(&[0x00, 0x01, 0x7f, 0x80, 0xff]); length],
+        1 => vec![random.pick(&[0x00, 0x01, 0x09, 0x7f, 0x80, 0xff]); length],
         2 => (0..length).map(|_| random.next() as u8 & 0x83).collect(),
         _ => {
             // A start that can be read, then anything.
-            let mut bytes = vec![
-                random.between(1, 4) as u8,
-                random.between(1, 3) as u8,
-                0x88,
-                0x27,
-                random.between(1, 127) as u8,
-                random.between(1, 9) as u8,
-            ];
+            let mut bytes = beginning(random);
             while bytes.len() < length {
                 bytes.push(random.next() as u8 & random.pick(&[0x03, 0x7f, 0xff]));
             }
             bytes
         }
     }
+}
+
+/// A date now and then, then class, terrain, step 5,000, ramp limit and plan count.
+fn beginning(random: &mut Random) -> Vec<u8> {
+    let mut bytes = Vec::new();
+    if random.chance(60) {
+        let is_day = random.chance(80);
+        let date = day_or_none(random, is_day);
+        bytes.push(9);
+        bytes.extend(number_bytes(date as u64));
+    }
+    bytes.extend([
+        random.between(1, 4) as u8,
+        random.between(1, 3) as u8,
+        0x88,
+        0x27,
+        random.between(1, 127) as u8,
+        random.between(1, 9) as u8,
+    ]);
+    bytes
 }
 
 /// A file that can be read, its fields of any value; some of the rules are kept now and then.
@@ -78,6 +92,7 @@ pub fn extreme(random: &mut Random) -> Vec<u8> {
         }
     }
     file(&Alignment {
+        contract: random_contract(random),
         class: random.between(1, 4),
         terrain: random.between(1, 3),
         step: random.between_or_bound(1_000, 100_000),

@@ -1,19 +1,21 @@
 //! Damages to roads, numbers and bytes, alone or several at once.
 
+use super::days::{no_day, random_contract};
 use super::edges::plan::change_kind;
 use super::numbers::{bytes_of, file, number_bytes, numbers, Number};
 use super::random::Random;
 use super::valid::alignment;
-use reference::file::Alignment;
+use reference::file::{Alignment, Contract};
 use reference::limits::limits;
 
-const DAMAGES: [usize; 28] = [
-    0, 1, 2, 2, 2, 2, 2, 3, 3, 3, 4, 4, 5, 6, 6, 7, 7, 7, 8, 9, 10, 11, 12, 12, 13, 14, 14, 15,
+const DAMAGES: [usize; 32] = [
+    0, 1, 2, 2, 2, 2, 2, 3, 3, 3, 4, 4, 5, 6, 6, 7, 7, 7, 8, 9, 10, 11, 12, 12, 13, 14, 14, 15, 16,
+    16, 16, 17,
 ];
 
 /// One rule is broken, mostly by little.
 pub fn damage_road(random: &mut Random, road: &mut Alignment) {
-    let limits = limits(road.class, road.terrain);
+    let limits = limits(road);
     let element = random.place(road.elements.len());
     let tangent = random.place(road.tangents.len());
     let point = random.place(road.points.len());
@@ -66,6 +68,8 @@ pub fn damage_road(random: &mut Random, road: &mut Alignment) {
             let other = random.place(road.points.len());
             road.points.swap(point, other);
         }
+        16 => road.contract = random_contract(random),
+        17 => road.contract = Contract::Dated(no_day(random)),
         _ => {
             let elements = road.elements.len();
             road.elements.truncate(random.place(elements) + 1);

@@ -1,15 +1,46 @@
 //! What is special about a road that is not turned away, to see what the files reach.
 
+use super::valid::books::{least_clothoid_under, other_book};
 use super::valid::crossfall::arcs;
 use super::valid::plan::least_clothoid;
 use super::valid::profile::least_half_length;
-use reference::file::{Alignment, CrossfallPoint, Element, Kind};
-use reference::limits::{limits, speed, Limits};
+use reference::file::{Alignment, Contract, CrossfallPoint, Element, Kind};
+use reference::limits::{limits, rule_book, speed, LeastClothoid, Limits, RuleBook};
 use reference::road;
 
 type Feature = (&'static str, fn(&Alignment, &Limits) -> bool);
 
-pub const FEATURES: [Feature; 58] = [
+pub const FEATURES: [Feature; 71] = [
+    ("no contract date", |r, _| r.contract == Contract::Undated),
+    ("a date under today's book", |r, _| {
+        dated(r, |date| date >= 20120101)
+    }),
+    ("a date under the old handbook", |r, _| {
+        dated(r, |date| date < 20120101)
+    }),
+    ("19500101", |r, _| dated(r, |date| date == 19500101)),
+    ("20111231", |r, _| dated(r, |date| date == 20111231)),
+    ("20120101", |r, _| dated(r, |date| date == 20120101)),
+    ("20991231", |r, _| dated(r, |date| date == 20991231)),
+    ("29 February", |r, _| dated(r, |date| date % 10_000 == 229)),
+    ("70 km/h, radius below 180,000", |r, _| {
+        speed(r.class, r.terrain) == 70
+            && any(r, |e| e.kind == Kind::Arc && e.radius.abs() < 180_000)
+    }),
+    ("70 km/h, R min 180,000", |r, l| {
+        speed(r.class, r.terrain) == 70
+            && l.radius_min == 180_000
+            && any(r, |e| e.radius.abs() == 180_000)
+    }),
+    ("clothoid at the least length", |r, l| {
+        matches!(l.clothoid, LeastClothoid::Length(_)) && clothoid_at_min(r, l)
+    }),
+    ("clothoid by A min alone", |r, _| {
+        clothoid_of_one_book(r, RuleBook::Today)
+    }),
+    ("clothoid by length alone", |r, _| {
+        clothoid_of_one_book(r, RuleBook::OldHandbook)
+    }),
     ("40 km/h", |r, _| speed(r.class, r.terrain) == 40),
     ("50 km/h", |r, _| speed(r.class, r.terrain) == 50),
     ("60 km/h", |r, _| speed(r.class, r.terrain) == 60),
@@ -112,8 +143,15 @@ pub const FEATURES: [Feature; 58] = [
 
 /// Whether a road has each of the features.
 pub fn features(road: &Alignment) -> [bool; FEATURES.len()] {
-    let limits = limits(road.class, road.terrain);
+    let limits = limits(road);
     FEATURES.map(|(_, has)| has(road, &limits))
+}
+
+fn dated(road: &Alignment, has: impl Fn(i128) -> bool) -> bool {
+    match road.contract {
+        Contract::Undated => false,
+        Contract::Dated(date) => has(date),
+    }
 }
 
 fn any(road: &Alignment, has: impl Fn(&Element) -> bool) -> bool {
@@ -132,6 +170,18 @@ fn clothoid_at_min(road: &Alignment, limits: &Limits) -> bool {
         element.kind == Kind::Clothoid
             && element.length == least_clothoid(limits, road::arc_of_clothoid(road, place).radius)
     })
+}
+
+/// A road of a rule book with a clothoid that the other one would refuse.
+fn clothoid_of_one_book(road: &Alignment, book: RuleBook) -> bool {
+    let other = other_book(book);
+    let speed = speed(road.class, road.terrain);
+    let too_short = |place: usize| {
+        let radius = road::arc_of_clothoid(road, place).radius;
+        road.elements[place].length < least_clothoid_under(other, speed, radius)
+    };
+    let mut clothoids = (1..road.elements.len()).step_by(2);
+    rule_book(road.contract) == book && clothoids.any(too_short)
 }
 
 fn end_height(road: &Alignment) -> i128 {

@@ -2,8 +2,10 @@
 
 pub mod absurd;
 pub mod damage;
+pub mod days;
 pub mod edges;
 pub mod features;
+pub mod head;
 pub mod numbers;
 pub mod order;
 pub mod random;
@@ -12,7 +14,7 @@ pub mod valid;
 #[cfg(test)]
 mod tests;
 
-use edges::{Expected, EDGES, FIRST_RULE};
+use edges::{Expected, DATES, EDGES, FIRST_RULE};
 use random::Random;
 
 /// What a file is made for.
@@ -68,6 +70,16 @@ fn random_kind(random: &mut Random) -> FileKind {
     FileKind::Valid
 }
 
+/// A limit: the rules of a road and its date more often than the shape of the other numbers.
+fn random_edge(random: &mut Random) -> usize {
+    let places = match random.place(20) {
+        0..=9 => FIRST_RULE..EDGES.len(),
+        10..=12 => DATES,
+        _ => 0..EDGES.len(),
+    };
+    places.start + random.place(places.len())
+}
+
 /// The file of an index; `only` holds it to one kind.
 pub fn make_file(random: &mut Random, only: Option<FileKind>) -> MadeFile {
     let drawn = random_kind(random);
@@ -84,9 +96,7 @@ pub fn make_file(random: &mut Random, only: Option<FileKind>) -> MadeFile {
             ..plain(numbers::file(&valid::alignment(random)))
         },
         FileKind::Limit => {
-            // The rules of a road more often than the shape of its numbers.
-            let first = if random.chance(55) { FIRST_RULE } else { 0 };
-            let place = first + random.place(EDGES.len() - first);
+            let place = random_edge(random);
             let outside = random.chance(50);
             let (bytes, expected) = EDGES[place].make(random, outside);
             MadeFile {

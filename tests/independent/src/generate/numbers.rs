@@ -1,10 +1,12 @@
 //! From an alignment to the numbers of a file and to its bytes.
 
-use reference::file::{Alignment, Kind};
+use reference::file::{Alignment, Contract, Kind};
 
 /// What a number of the file stands for.
 #[derive(Clone, Copy, Debug, PartialEq, Eq)]
 pub enum Field {
+    Layout,
+    Date,
     Class,
     Terrain,
     Step,
@@ -58,6 +60,10 @@ fn written(value: i128) -> u64 {
 pub fn numbers(alignment: &Alignment) -> Vec<Number> {
     let mut numbers = Vec::new();
     let mut add = |field, written| numbers.push(Number { field, written });
+    if let Contract::Dated(date) = alignment.contract {
+        add(Field::Layout, 9);
+        add(Field::Date, written(date));
+    }
     add(Field::Class, written(alignment.class));
     add(Field::Terrain, written(alignment.terrain));
     add(Field::Step, written(alignment.step));

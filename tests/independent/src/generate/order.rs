@@ -1,16 +1,24 @@
 //! Roads that break two rules, so that "the lowest refusal wins" is seen for every pair.
 
+use super::days::random_contract;
+use super::head::Head;
 use super::numbers::file;
 use super::random::Random;
 use super::valid::plan::{least_clothoid, plan_of_radii};
 use super::valid::{upon_plan, Size, LONGEST_LENGTH};
 use reference::file::{Alignment, Element, Kind};
-use reference::limits::{limits, Limits};
+use reference::limits::Limits;
 
 /// A road of bends to one side that breaks two or three of the rules 5 to 19.
 pub fn rules_broken_together(random: &mut Random) -> Vec<u8> {
     let (class, terrain) = random.pick(&[(1, 1), (1, 3), (2, 2), (2, 3), (3, 1), (3, 2), (4, 1)]);
-    let limits = limits(class, terrain);
+    let contract = random_contract(random);
+    let head = Head {
+        contract,
+        class,
+        terrain,
+    };
+    let limits = head.limits();
     let count = random.between(2, 3);
     let broken: Vec<i128> = (0..count).map(|_| random.between(5, 19)).collect();
     let size = Size::with_bends(random, 2, 6);
@@ -22,7 +30,7 @@ pub fn rules_broken_together(random: &mut Random) -> Vec<u8> {
     for &rule in &broken {
         break_plan(random, &limits, &mut elements, rule);
     }
-    let mut road = upon_plan(random, class, terrain, elements, &size);
+    let mut road = upon_plan(random, head, elements, &size);
     for &rule in &broken {
         break_road(random, &limits, &mut road, rule);
     }

@@ -1,11 +1,14 @@
 //! The generator itself: what it makes, and that it reaches everything.
 
+use super::days::{contract_under, day_or_none};
 use super::edges::EDGES;
 use super::numbers::{file, numbers};
 use super::random::Random;
 use super::valid::alignment;
 use super::{make_file, FileKind};
-use reference::file::read;
+use reference::day::is_day;
+use reference::file::{read, GREATEST_NUMBER};
+use reference::limits::{rule_book, RuleBook};
 use reference::machine::accept;
 
 #[test]
@@ -39,6 +42,8 @@ fn both_sides_of_every_limit_are_as_expected() {
 fn limits_of_rules_begin_where_said() {
     assert!(EDGES[super::FIRST_RULE].name.starts_with("5 "));
     assert!(EDGES[super::FIRST_RULE - 1].name.starts_with("4 "));
+    assert_eq!(EDGES[super::DATES.start].name, "2 date");
+    assert_eq!(EDGES[super::DATES.end - 1].name, "3 second date");
 }
 
 #[test]
@@ -57,6 +62,38 @@ fn numbers_of_a_road_are_read_back() {
         let written = |road| numbers(road).iter().map(|n| n.written).collect::<Vec<_>>();
         assert_eq!(written(&road), written(&again));
     }
+}
+
+#[test]
+fn days_are_days_and_the_others_are_none() {
+    for index in 0..20_000 {
+        let mut random = Random::for_file(13, index);
+        for wanted in [true, false] {
+            let date = day_or_none(&mut random, wanted);
+            assert!(is_day(date) == wanted && date <= GREATEST_NUMBER, "{date}");
+        }
+    }
+}
+
+#[test]
+fn a_contract_is_under_the_rule_book_asked_for() {
+    for index in 0..2_000 {
+        let mut random = Random::for_file(17, index);
+        for book in [RuleBook::Today, RuleBook::OldHandbook] {
+            let contract = contract_under(&mut random, book);
+            assert_eq!(rule_book(contract), book, "{contract:?}");
+        }
+    }
+}
+
+#[test]
+fn nearly_half_of_the_files_are_dated() {
+    let dated = |index| {
+        let made = make_file(&mut Random::for_file(19, index), None);
+        made.bytes.first() == Some(&9)
+    };
+    let count = (0..5_000).filter(|&index| dated(index)).count();
+    assert!((2_000..2_500).contains(&count), "{count}");
 }
 
 #[test]

@@ -1,6 +1,7 @@
 //! Refusals 16 to 19: crossfall points, ramps, crossfall on arcs.
 
-use super::{accepted_or, random_row, road_with, row_with, Made};
+use super::{accepted_or, road_with, Made};
+use crate::generate::head::Head;
 use crate::generate::random::Random;
 use crate::generate::valid::crossfall::{arcs, point, superelevation, Crossfall};
 use crate::generate::valid::plan::plan_of_radii;
@@ -84,7 +85,7 @@ fn crossfall_bound(random: &mut Random, outside: bool, size: i128, beyond: i128)
 
 /// Pairs of points that are as near as the ramp limit allows.
 fn tight_pairs(road: &Alignment) -> Vec<usize> {
-    let lane_width = limits(road.class, road.terrain).lane_width;
+    let lane_width = limits(road).lane_width;
     (0..road.points.len() - 1)
         .filter(|&place| {
             let (here, next) = (road.points[place], road.points[place + 1]);
@@ -116,7 +117,7 @@ pub fn ramp_distance(random: &mut Random, outside: bool) -> Made {
 
 pub fn ramp_limit(random: &mut Random, outside: bool) -> Made {
     let (mut alignment, _) = road_with(random, alignment, |road| {
-        let lane_width = limits(road.class, road.terrain).lane_width;
+        let lane_width = limits(road).lane_width;
         let steepest = road
             .points
             .windows(2)
@@ -140,8 +141,8 @@ pub fn ramp_limit(random: &mut Random, outside: bool) -> Made {
 
 /// Lane width times change is ramp limit times distance, or 1 above.
 pub fn ramp_product(random: &mut Random, outside: bool) -> Made {
-    let (class, terrain) = random_row(random);
-    let limits = limits(class, terrain);
+    let head = Head::random(random);
+    let limits = head.limits();
     let ramp_limit = random.between_by_size(1, 20_000);
     let beyond = if outside { 1 } else { 0 };
     let from = random.between_by_size(1, 45_000);
@@ -159,7 +160,7 @@ pub fn ramp_product(random: &mut Random, outside: bool) -> Made {
         radius: 0,
     };
     let size = Size::with_bends(random, 0, 0);
-    let mut alignment = upon_plan(random, class, terrain, vec![straight], &size);
+    let mut alignment = upon_plan(random, head, vec![straight], &size);
     let low = random.between_or_bound(25_000, 70_000 - change);
     let (first, last) = random.pick(&[(low, low + change), (low + change, low)]);
     let (one, other) = (random.sign(), random.sign());
@@ -175,9 +176,9 @@ pub fn ramp_product(random: &mut Random, outside: bool) -> Made {
 }
 
 fn road_with_bends(random: &mut Random) -> Alignment {
-    let (class, terrain) = random_row(random);
+    let head = Head::random(random);
     let size = Size::with_bends(random, 1, 5);
-    alignment_of(random, class, terrain, &size)
+    alignment_of(random, head, &size)
 }
 
 /// Points where a ramp meets an end of an arc exactly; the place of the point.
@@ -240,15 +241,15 @@ pub fn change_on_arc(random: &mut Random, outside: bool) -> Made {
 
 /// A road whose bends turn one way, with one crossfall from start to end.
 fn level_road(random: &mut Random, crossfall: impl Fn(i128) -> Crossfall) -> Alignment {
-    let (class, terrain) = random_row(random);
+    let head = Head::random(random);
     let size = Size::with_bends(random, 1, 5);
-    let limits = limits(class, terrain);
+    let limits = head.limits();
     let turn = random.sign();
     let radii: Vec<i128> = (0..size.bends)
         .map(|_| turn * random.between_or_bound(limits.radius_min, LONGEST_LENGTH))
         .collect();
     let elements = plan_of_radii(random, &limits, &size, &radii);
-    let mut alignment = upon_plan(random, class, terrain, elements, &size);
+    let mut alignment = upon_plan(random, head, elements, &size);
     let end = alignment.total_length();
     let everywhere = crossfall(turn);
     alignment.points = vec![point(0, everywhere), point(end, everywhere)];
@@ -283,8 +284,8 @@ pub fn both_falling(random: &mut Random, outside: bool) -> Made {
     let fast = |limits: &Limits| limits.radius_both_falling.is_some();
     let slow = |limits: &Limits| limits.radius_both_falling.is_none();
     let has_none = outside && random.chance(30);
-    let (class, terrain) = row_with(random, if has_none { slow } else { fast });
-    let limits = limits(class, terrain);
+    let head = Head::with(random, if has_none { slow } else { fast });
+    let limits = head.limits();
     let least = limits.radius_both_falling.unwrap_or(LONGEST_LENGTH);
     let size = Size::with_bends(random, 1, 5);
     let mut radii: Vec<i128> = (0..size.bends)
@@ -306,7 +307,7 @@ pub fn both_falling(random: &mut Random, outside: bool) -> Made {
         }
     }
     let elements = plan_of_radii(random, &limits, &size, &radii);
-    let mut alignment = upon_plan(random, class, terrain, elements, &size);
+    let mut alignment = upon_plan(random, head, elements, &size);
     let end = alignment.total_length();
     alignment.points = vec![point(0, crossfall), point(end, crossfall)];
     accepted_or(outside, &alignment, 19)

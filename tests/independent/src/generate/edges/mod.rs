@@ -1,14 +1,17 @@
 //! Files at both sides of each limit: just inside, and just outside.
 
+mod books;
 mod crossfall;
+mod date;
 pub mod plan;
 mod profile;
 mod shape;
 
+use std::ops::Range;
+
 use super::numbers::{file, Field};
 use super::random::Random;
 use reference::file::{Alignment, Refusal};
-use reference::limits::{limits, Limits};
 use shape::Bound;
 
 /// What the paper must say of a file.
@@ -72,16 +75,31 @@ const fn bound(name: &'static str, field: Field, value: i128, beyond: i128) -> E
     Edge { name, maker }
 }
 
-/// Where the limits of refusals 5 to 19 begin.
-pub const FIRST_RULE: usize = 40;
+/// Where the limits of the contract date are.
+pub const DATES: Range<usize> = 6..18;
 
-pub const EDGES: [Edge; 72] = [
+/// Where the limits of refusals 5 to 19 begin.
+pub const FIRST_RULE: usize = 52;
+
+pub const EDGES: [Edge; 87] = [
     edge("1 longest file", shape::longest_file),
     edge("2 breaks off", shape::breaks_off),
     edge("2 shortest form", shape::shortest_form),
     edge("2 greatest number", shape::greatest_number),
     edge("2 five bytes", shape::five_bytes),
     edge("2 top bit at the end", shape::top_bit_at_end),
+    edge("2 date", date::shape_of_date),
+    edge("22 first day", date::first_day),
+    edge("22 last day", date::last_day),
+    edge("22 month low", date::first_month),
+    edge("22 month high", date::last_month),
+    edge("22 day low", date::first_of_month),
+    edge("22 day high", date::end_of_month),
+    edge("22 leap day", date::leap_day),
+    edge("22 any number", date::any_number),
+    edge("22 before the class", date::before_class),
+    edge("3 beside 9", date::layout),
+    edge("3 second date", date::second_date),
     bound("3 class low", Field::Class, 1, -1),
     bound("3 class high", Field::Class, 4, 1),
     bound("3 terrain low", Field::Terrain, 1, -1),
@@ -126,9 +144,12 @@ pub const EDGES: [Edge; 72] = [
     edge("9 straight min", plan::straight_min),
     edge("9 turns", plan::turns),
     edge("10 R min", plan::radius_min),
+    edge("10 at 70 of one book", books::radius_at_70),
     edge("11 arc min", plan::arc_min),
-    edge("12 A min", plan::clothoid_min),
+    edge("12 clothoid min", plan::clothoid_min),
     edge("12 just the square", plan::clothoid_square),
+    edge("12 by A min alone", books::clothoid_of_today),
+    edge("12 by length alone", books::clothoid_of_old_handbook),
     edge("13 grade max", profile::grade_max),
     edge("14 tangent and halves", profile::tangent_and_halves),
     edge("15 sag", profile::sag),
@@ -163,20 +184,6 @@ fn accepted_or(outside: bool, alignment: &Alignment, number: i128) -> Made {
         refused(alignment, number)
     } else {
         accepted(alignment)
-    }
-}
-
-fn random_row(random: &mut Random) -> (i128, i128) {
-    (random.between(1, 4), random.between(1, 3))
-}
-
-/// A class and terrain whose row has what is asked of it.
-fn row_with(random: &mut Random, has: fn(&Limits) -> bool) -> (i128, i128) {
-    loop {
-        let (class, terrain) = random_row(random);
-        if has(&limits(class, terrain)) {
-            return (class, terrain);
-        }
     }
 }
 

@@ -1,22 +1,24 @@
 //! Refusals 5 to 12: lengths, kinds, straights, arcs and clothoids.
 
-use super::{accepted, accepted_or, random_row, refused, road_with, row_with, Made};
+use super::{accepted, accepted_or, refused, road_with, Made};
+use crate::generate::days::contract_under;
+use crate::generate::head::Head;
 use crate::generate::random::Random;
 use crate::generate::valid::plan::{least_clothoid, plan, plan_of_radii, stretch, total};
 use crate::generate::valid::{
     alignment, alignment_of, upon_plan, Size, LONGEST_LENGTH, LONGEST_PLAN,
 };
 use reference::file::{Alignment, Element, Kind};
-use reference::limits::{limits, Limits};
+use reference::limits::{LeastClothoid, Limits, RuleBook};
 
 /// A road as long as a plan may be.
 fn longest_road(random: &mut Random) -> Alignment {
-    let (class, terrain) = random_row(random);
+    let head = Head::random(random);
     let size = Size::with_bends(random, 4, 49);
-    let limits = limits(class, terrain);
+    let limits = head.limits();
     let mut elements = plan(random, &limits, &size);
     stretch(random, &mut elements, LONGEST_PLAN);
-    upon_plan(random, class, terrain, elements, &size)
+    upon_plan(random, head, elements, &size)
 }
 
 pub fn plan_length(random: &mut Random, outside: bool) -> Made {
@@ -92,9 +94,9 @@ pub fn change_kind(random: &mut Random, element: &mut Element) {
 }
 
 pub fn stops_short(random: &mut Random, outside: bool) -> Made {
-    let (class, terrain) = random_row(random);
+    let head = Head::random(random);
     let size = Size::with_bends(random, 1, 49);
-    let mut alignment = alignment_of(random, class, terrain, &size);
+    let mut alignment = alignment_of(random, head, &size);
     if outside {
         // The last elements are left out; their length goes to others.
         let end = alignment.total_length();
@@ -116,11 +118,11 @@ pub fn stops_short(random: &mut Random, outside: bool) -> Made {
 
 /// 197 elements pass; 198 to 200 stop short.
 pub fn most_elements(random: &mut Random, outside: bool) -> Made {
-    let (class, terrain) = random_row(random);
+    let head = Head::random(random);
     let size = Size::with_bends(random, 49, 49);
-    let limits = limits(class, terrain);
+    let limits = head.limits();
     let elements = plan(random, &limits, &size);
-    let mut alignment = upon_plan(random, class, terrain, elements, &size);
+    let mut alignment = upon_plan(random, head, elements, &size);
     if outside {
         let more = random.between(1, 3) as usize;
         let shortened = &mut alignment.elements[196];
@@ -141,34 +143,34 @@ pub fn most_elements(random: &mut Random, outside: bool) -> Made {
 }
 
 /// A plan with one thing changed, then profile and crossfalls upon it.
-fn changed_plan(
+pub fn changed_plan(
     random: &mut Random,
     outside: bool,
     number: i128,
-    row: (i128, i128),
+    head: Head,
     least_bends: i128,
     change: impl Fn(&mut Random, &Limits, &mut Vec<Element>, i128),
 ) -> Made {
     let size = Size::with_bends(random, least_bends, 5);
-    let limits = limits(row.0, row.1);
+    let limits = head.limits();
     let mut elements = plan(random, &limits, &size);
     let beyond = if outside { 1 } else { 0 };
     change(random, &limits, &mut elements, beyond);
-    let alignment = upon_plan(random, row.0, row.1, elements, &size);
+    let alignment = upon_plan(random, head, elements, &size);
     accepted_or(outside, &alignment, number)
 }
 
-fn random_arc(random: &mut Random, elements: &[Element]) -> usize {
+pub fn random_arc(random: &mut Random, elements: &[Element]) -> usize {
     2 + 4 * random.place((elements.len() - 1) / 4)
 }
 
 pub fn straight_max(random: &mut Random, outside: bool) -> Made {
-    let row = row_with(random, |limits| limits.straight_max.is_some());
+    let head = Head::with(random, |limits| limits.straight_max.is_some());
     changed_plan(
         random,
         outside,
         8,
-        row,
+        head,
         0,
         |random, limits, elements, beyond| {
             let place = 4 * random.place(elements.len().div_ceil(4));
@@ -178,10 +180,10 @@ pub fn straight_max(random: &mut Random, outside: bool) -> Made {
 }
 
 pub fn straight_min(random: &mut Random, outside: bool) -> Made {
-    let row = row_with(random, |limits| limits.straight_min.is_some());
+    let head = Head::with(random, |limits| limits.straight_min.is_some());
     let mut size = Size::with_bends(random, 2, 5);
     size.spread = size.spread.min(100_000);
-    let limits = limits(row.0, row.1);
+    let limits = head.limits();
     let turn = random.sign();
     let radii: Vec<i128> = (0..size.bends)
         .map(|_| turn * random.between(limits.radius_min, 4 * limits.radius_min))
@@ -190,31 +192,31 @@ pub fn straight_min(random: &mut Random, outside: bool) -> Made {
     let place = 4 * (1 + random.place(size.bends - 1));
     let beyond = if outside { 1 } else { 0 };
     elements[place].length = limits.straight_min.expect("a row with it") - beyond;
-    let alignment = upon_plan(random, row.0, row.1, elements, &size);
+    let alignment = upon_plan(random, head, elements, &size);
     accepted_or(outside, &alignment, 9)
 }
 
 /// A straight too short for one turn is long enough between opposite turns and at the ends.
 pub fn turns(random: &mut Random, outside: bool) -> Made {
-    let row = row_with(random, |limits| limits.straight_min.is_some());
+    let head = Head::with(random, |limits| limits.straight_min.is_some());
     let size = Size::with_bends(random, 2, 2);
-    let limits = limits(row.0, row.1);
+    let limits = head.limits();
     let radius = random.sign() * random.between(limits.radius_min, 4 * limits.radius_min);
     let other = if outside { radius } else { -radius };
     let mut elements = plan_of_radii(random, &limits, &size, &[radius, other]);
     let straight_min = limits.straight_min.expect("a row with it");
     elements[4].length = random.between(1, straight_min - 1);
-    let alignment = upon_plan(random, row.0, row.1, elements, &size);
+    let alignment = upon_plan(random, head, elements, &size);
     accepted_or(outside, &alignment, 9)
 }
 
 pub fn radius_min(random: &mut Random, outside: bool) -> Made {
-    let row = random_row(random);
+    let head = Head::of_either_book(random);
     changed_plan(
         random,
         outside,
         10,
-        row,
+        head,
         1,
         |random, limits, elements, beyond| {
             let place = random_arc(random, elements);
@@ -229,12 +231,12 @@ pub fn radius_min(random: &mut Random, outside: bool) -> Made {
 }
 
 pub fn arc_min(random: &mut Random, outside: bool) -> Made {
-    let row = random_row(random);
+    let head = Head::random(random);
     changed_plan(
         random,
         outside,
         11,
-        row,
+        head,
         1,
         |random, limits, elements, beyond| {
             let place = random_arc(random, elements);
@@ -244,36 +246,48 @@ pub fn arc_min(random: &mut Random, outside: bool) -> Made {
 }
 
 pub fn clothoid_min(random: &mut Random, outside: bool) -> Made {
-    let row = random_row(random);
+    let head = Head::of_either_book(random);
     changed_plan(
         random,
         outside,
         12,
-        row,
+        head,
         1,
         |random, limits, elements, beyond| {
-            let place = random_arc(random, elements);
-            let clothoid = random.pick(&[place - 1, place + 1]);
-            let before = elements[clothoid].length;
-            elements[clothoid].length = least_clothoid(limits, elements[place].radius) - beyond;
-            // The clothoid beyond the straight keeps the room that the crossfall needs.
-            let fellow = if clothoid < place {
-                clothoid.checked_sub(2)
-            } else {
-                Some(clothoid + 2)
-            };
-            if let Some(fellow) = fellow.and_then(|fellow| elements.get_mut(fellow)) {
-                fellow.length = (fellow.length + before).min(LONGEST_LENGTH);
-            }
+            let arc = random_arc(random, elements);
+            let length = least_clothoid(limits, elements[arc].radius) - beyond;
+            set_clothoid(random, elements, arc, length);
         },
     )
 }
 
+/// Gives a clothoid beside an arc its length.
+pub fn set_clothoid(random: &mut Random, elements: &mut [Element], arc: usize, length: i128) {
+    let clothoid = random.pick(&[arc - 1, arc + 1]);
+    let before = elements[clothoid].length;
+    elements[clothoid].length = length;
+    // The clothoid beyond the straight keeps the room that the crossfall needs.
+    let fellow = if clothoid < arc {
+        clothoid.checked_sub(2)
+    } else {
+        Some(clothoid + 2)
+    };
+    if let Some(fellow) = fellow.and_then(|fellow| elements.get_mut(fellow)) {
+        fellow.length = (fellow.length + before).min(LONGEST_LENGTH);
+    }
+}
+
 /// Length times radius is A min squared, or 1 below.
 pub fn clothoid_square(random: &mut Random, outside: bool) -> Made {
-    let (class, terrain) = random_row(random);
-    let limits = limits(class, terrain);
-    let square = limits.clothoid_parameter_min * limits.clothoid_parameter_min;
+    let head = Head {
+        contract: contract_under(random, RuleBook::Today),
+        ..Head::random(random)
+    };
+    let limits = head.limits();
+    let LeastClothoid::Parameter(parameter) = limits.clothoid else {
+        unreachable!("today's rule book has A min")
+    };
+    let square = parameter * parameter;
     let product = if outside { square - 1 } else { square };
     let (least, most) = (product / LONGEST_LENGTH + 1, product / limits.radius_min);
     let from = random.between(least, most);
@@ -284,6 +298,6 @@ pub fn clothoid_square(random: &mut Random, outside: bool) -> Made {
     let radius = random.sign() * (product / length);
     let mut elements = plan_of_radii(random, &limits, &size, &[radius]);
     elements[random.pick(&[1, 3])].length = length;
-    let alignment = upon_plan(random, class, terrain, elements, &size);
+    let alignment = upon_plan(random, head, elements, &size);
     accepted_or(outside, &alignment, 12)
 }

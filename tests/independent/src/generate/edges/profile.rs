@@ -8,7 +8,7 @@ use reference::limits::limits;
 
 pub fn grade_max(random: &mut Random, outside: bool) -> Made {
     let (mut alignment, place) = road_with(random, alignment, |road| {
-        let most = limits(road.class, road.terrain).grade_max;
+        let most = limits(road).grade_max;
         (0..road.tangents.len())
             .filter(|&place| road.tangents[place].grade.abs() == most)
             .collect()
@@ -53,7 +53,7 @@ pub fn crest(random: &mut Random, outside: bool) -> Made {
 /// A half length at its least, or 1 below.
 fn vertical_curve(random: &mut Random, outside: bool, sag: bool) -> Made {
     let (mut alignment, vertex) = road_with(random, alignment, |road| {
-        let limits = limits(road.class, road.terrain);
+        let limits = limits(road);
         (0..road.tangents.len() - 1)
             .filter(|&vertex| {
                 let change = road.tangents[vertex + 1].grade - road.tangents[vertex].grade;
@@ -76,7 +76,7 @@ pub fn no_vertical_curve(random: &mut Random, outside: bool) -> Made {
             .collect()
     });
     if outside {
-        let most = limits(alignment.class, alignment.terrain).grade_max;
+        let most = limits(&alignment).grade_max;
         let grade = &mut alignment.tangents[vertex + 1].grade;
         *grade += if *grade == most || (*grade > -most && random.chance(50)) {
             -1

@@ -1,6 +1,7 @@
-//! Refusals 1 to 4: the file's length, the shape of its numbers, their ranges.
+//! Refusals 1 to 4: the file's length, the shape of its numbers, their ranges; `date` has what the date adds.
 
-use super::{random_row, road_with, Expected, Made};
+use super::{road_with, Expected, Made};
+use crate::generate::head::Head;
 use crate::generate::numbers::{
     bytes_of, file, first_byte, number_bytes, numbers, written_signed, Field, Number,
 };
@@ -21,7 +22,7 @@ pub fn longest_file(random: &mut Random, outside: bool) -> Made {
     } else {
         Vec::new()
     };
-    let filler = random.pick(&[0x00, 0x01, 0x80, 0xff]);
+    let filler = random.pick(&[0x00, 0x01, 0x09, 0x80, 0xff]);
     let read = bytes.len();
     bytes.resize(if outside { 8_193 } else { 8_192 }, filler);
     let expected = match (outside, read) {
@@ -29,6 +30,7 @@ pub fn longest_file(random: &mut Random, outside: bool) -> Made {
         (false, 0) => match filler {
             0x00 => Expected::RefusedAt(3, 0),
             0x01 => Expected::RefusedAt(3, 2),
+            0x09 => Expected::RefusedAt(22, 1),
             _ => Expected::RefusedAt(2, 0),
         },
         (false, read) => Expected::RefusedAt(4, read),
@@ -78,12 +80,25 @@ pub fn shortest_form(random: &mut Random, outside: bool) -> Made {
     )
 }
 
+/// A date's value is refused with 22, any other with 3.
+fn refusal_of_value(field: Field) -> i128 {
+    if field == Field::Date {
+        22
+    } else {
+        3
+    }
+}
+
 pub fn greatest_number(random: &mut Random, outside: bool) -> Made {
     let numbers = numbers(&alignment(random));
     let place = random.place(numbers.len());
     let greatest = 4_294_967_295;
     let value = if outside { greatest + 1 } else { greatest };
-    let number = if outside { 2 } else { 3 };
+    let number = if outside {
+        2
+    } else {
+        refusal_of_value(numbers[place].field)
+    };
     (
         with_number(&numbers, place, &number_bytes(value)),
         Expected::RefusedAt(number, first_byte(&numbers, place)),
@@ -96,7 +111,8 @@ pub fn five_bytes(random: &mut Random, outside: bool) -> Made {
     let (value, number) = if outside {
         (1_u64 << random.between(35, 63), 2)
     } else {
-        (random.between(1 << 28, 4_294_967_295) as u64, 3)
+        let value = random.between(1 << 28, 4_294_967_295);
+        (value as u64, refusal_of_value(numbers[place].field))
     };
     (
         with_number(&numbers, place, &number_bytes(value)),
@@ -124,9 +140,9 @@ pub fn at_bound(random: &mut Random, outside: bool, bound: Bound) -> Made {
         bound.value
     };
     let road = |random: &mut Random| {
-        let (class, terrain) = random_row(random);
+        let head = Head::random(random);
         let size = Size::with_bends(random, 1, 4);
-        alignment_of(random, class, terrain, &size)
+        alignment_of(random, head, &size)
     };
     let (alignment, place) = road_with(random, road, |alignment| {
         let numbers = numbers(alignment);

@@ -1,15 +1,17 @@
 //! Roads that keep every rule, often exactly at a limit.
 
+pub mod books;
 pub mod crossfall;
 pub mod plan;
 pub mod profile;
 
+use super::head::Head;
 use super::random::Random;
+use books::near_other_book;
 use crossfall::crossfalls;
 use plan::{plan, stretch, total};
 use profile::profile;
 use reference::file::{Alignment, Element};
-use reference::limits::limits;
 
 pub const LONGEST_PLAN: i128 = 100_000_000;
 pub const LONGEST_LENGTH: i128 = 10_000_000;
@@ -104,17 +106,17 @@ pub fn random_start_height(random: &mut Random) -> i128 {
 /// Builds profile and crossfalls upon a plan.
 pub fn upon_plan(
     random: &mut Random,
-    class: i128,
-    terrain: i128,
+    head: Head,
     elements: Vec<Element>,
     size: &Size,
 ) -> Alignment {
-    let limits = limits(class, terrain);
+    let limits = head.limits();
     let end = total(&elements);
     let (ramp_limit, points) = crossfalls(random, &limits, &elements, size.points);
     Alignment {
-        class,
-        terrain,
+        contract: head.contract,
+        class: head.class,
+        terrain: head.terrain,
         step: random_step(random, end),
         ramp_limit,
         tangents: profile(random, &limits, end, size.tangents),
@@ -127,16 +129,19 @@ pub fn upon_plan(
 /// A road that keeps every rule.
 pub fn alignment(random: &mut Random) -> Alignment {
     let size = Size::random(random);
-    let (class, terrain) = (random.between(1, 4), random.between(1, 3));
-    alignment_of(random, class, terrain, &size)
+    let head = Head::random(random);
+    alignment_of(random, head, &size)
 }
 
-pub fn alignment_of(random: &mut Random, class: i128, terrain: i128, size: &Size) -> Alignment {
-    let limits = limits(class, terrain);
+pub fn alignment_of(random: &mut Random, head: Head, size: &Size) -> Alignment {
+    let limits = head.limits();
     let mut elements = plan(random, &limits, size);
+    if random.chance(20) {
+        elements = near_other_book(random, head, &elements);
+    }
     if size.bends >= 4 && random.chance(6) {
         let wanted = random.between_or_bound(total(&elements), LONGEST_PLAN);
         stretch(random, &mut elements, wanted);
     }
-    upon_plan(random, class, terrain, elements, size)
+    upon_plan(random, head, elements, size)
 }

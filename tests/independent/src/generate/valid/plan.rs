@@ -3,7 +3,7 @@
 use super::{divided_up, Size, LONGEST_LENGTH, LONGEST_PLAN};
 use crate::generate::random::Random;
 use reference::file::{Element, Kind};
-use reference::limits::Limits;
+use reference::limits::{LeastClothoid, Limits};
 
 /// A length not below a least one.
 fn length_from(random: &mut Random, least: i128, spread: i128) -> i128 {
@@ -15,12 +15,12 @@ fn length_from(random: &mut Random, least: i128, spread: i128) -> i128 {
     (least + more).min(LONGEST_LENGTH)
 }
 
-/// "A clothoid's length times its arc's unsigned radius" reaches A min squared.
+/// "A clothoid's length times its arc's unsigned radius" reaches A min squared, or its length the least length.
 pub fn least_clothoid(limits: &Limits, radius: i128) -> i128 {
-    divided_up(
-        limits.clothoid_parameter_min * limits.clothoid_parameter_min,
-        radius.abs(),
-    )
+    match limits.clothoid {
+        LeastClothoid::Parameter(parameter) => divided_up(parameter * parameter, radius.abs()),
+        LeastClothoid::Length(length) => length,
+    }
 }
 
 /// From arc to arc a crossfall can swing from 25,000 to -25,000 at the greatest ramp limit.
