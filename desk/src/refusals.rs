@@ -9,7 +9,7 @@ use crate::words::{common, rules, Phrase};
 /// What the place of a refusal of the file counts; none where the place says nothing.
 pub fn counted(number: u32) -> Option<Phrase> {
     match number {
-        1..=4 => Some(common::BYTE),
+        1..=4 | 22 => Some(common::BYTE),
         5 | 7..=12 | 19 => Some(common::ELEMENT),
         13 | 14 => Some(common::TANGENT),
         15 => Some(common::VERTEX),
@@ -47,6 +47,13 @@ mod tests {
     fn each_rule_by_its_number() {
         assert!((1..=19).all(|number| rule_name(number).is_some()));
         assert_eq!(rule_name(12), Some(rules::RULE_12));
-        assert_eq!((rule_name(0), rule_name(20)), (None, None));
+        assert_eq!(rule_name(22), Some(rules::RULE_22));
+        assert_eq!([0, 20, 21, 23].map(rule_name), [None; 4]);
+    }
+
+    #[test]
+    fn what_a_place_counts() {
+        assert_eq!([4, 22].map(counted), [Some(common::BYTE); 2]);
+        assert_eq!([6, 20, 21].map(counted), [None; 3]);
     }
 }

@@ -6,7 +6,7 @@ use std::collections::BTreeMap;
 use std::fs;
 use std::path::{Path, PathBuf};
 
-use damage::{damaged, Random};
+use damage::{damaged, dated, Random};
 use desk::language::Language;
 use desk::text::numbers::number_at;
 use desk::{make, show};
@@ -74,6 +74,26 @@ fn examples_and_vectors() {
     }
 }
 
+/// With a day, with a number that is none, and broken off within the first numbers.
+#[test]
+fn dated_files() {
+    let seeds = seeds();
+    let mut random = Random(4);
+    let mut refusals: BTreeMap<u32, usize> = BTreeMap::new();
+    for index in 0..4_000 {
+        let mut file = dated(&seeds[random.below(seeds.len())], &mut random);
+        if index % 4 == 0 {
+            file.truncate(random.below(16));
+        }
+        assert_same(&file, LANGUAGES[index % 3]);
+        *refusals.entry(refusal(&file)).or_default() += 1;
+    }
+    println!("dated files by refusal, 0 where listed: {refusals:?}");
+    assert!([0, 2, 12, 22]
+        .iter()
+        .all(|number| refusals.contains_key(number)));
+}
+
 #[test]
 fn texts_of_the_examples() {
     for path in files_ending("examples", "txt") {
@@ -132,7 +152,9 @@ fn try_damaged(count: usize, seed: u64) {
         *refusals.entry(refusal(&file)).or_default() += 1;
     }
     println!("{count} files by refusal, 0 where listed: {refusals:?}");
-    assert!((1..=4).all(|number| refusals.contains_key(&number)));
+    assert!([1, 2, 3, 4, 22]
+        .iter()
+        .all(|number| refusals.contains_key(number)));
 }
 
 /// The refusal's number; 0 of a file that is listed.

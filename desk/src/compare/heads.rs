@@ -1,10 +1,12 @@
 //! What differs between the heads of two revisions, and their lengths.
 
 use reference::file::Alignment;
+use reference::limits::rule_book;
 
 use crate::agreement::Listed;
 use crate::language::Language;
-use crate::rule_book::{class_name, terrain_name};
+use crate::rule_book::{book_name, class_name, terrain_name};
+use crate::text::date;
 use crate::words::{compare as words, Phrase};
 
 /// A line for each difference.
@@ -18,11 +20,16 @@ pub fn words(old: &Listed, new: &Listed, language: Language) -> Vec<String> {
 }
 
 /// Each number of a head, as it is shown.
-fn head(alignment: &Alignment, language: Language) -> [(Phrase, String); 4] {
+fn head(alignment: &Alignment, language: Language) -> [(Phrase, String); 6] {
     let named = |number: i128, name: Phrase| format!("{number} ({})", language.say(name, &[]));
     let class = alignment.class;
     let terrain = alignment.terrain;
+    let date = date::of(alignment.contract);
+    let date = date.unwrap_or_else(|| language.say(words::NO_DATE, &[]));
+    let book = book_name(rule_book(alignment.contract));
     [
+        (words::DATE, date),
+        (words::RULE_BOOK, language.say(book, &[])),
         (words::CLASS, named(class, class_name(class))),
         (words::TERRAIN, named(terrain, terrain_name(terrain))),
         (words::STEP, language.number(alignment.step)),
@@ -46,6 +53,7 @@ fn length(old: &Listed, new: &Listed, language: Language) -> Option<String> {
 mod tests {
     use super::*;
     use crate::agreement::{agreed, Agreed};
+    use reference::file::Contract;
 
     const CREST: &[u8] = include_bytes!("../../../examples/crest.alignment");
     const MOUNTAIN: &[u8] = include_bytes!("../../../examples/mountain-access-road.alignment");
@@ -69,6 +77,32 @@ mod tests {
             "ramp limit: 5,000 ppm before, 4,000 ppm now",
         ];
         assert_eq!(words(&crest, &other, Language::English), expected);
+        let dated = |date| {
+            let mut road = listed(CREST);
+            road.alignment.contract = Contract::Dated(date);
+            road
+        };
+        let expected = [
+            "contract date: none before, 2011-12-31 now",
+            "rule book: today's rule book before, old handbook now",
+        ];
+        assert_eq!(
+            words(&crest, &dated(20_111_231), Language::English),
+            expected
+        );
+        let expected = ["датум уговора: раније 2012-01-01, сада без датума"];
+        assert_eq!(
+            words(&dated(20_120_101), &crest, Language::Serbian),
+            expected
+        );
+        let expected = [
+            "датум уговора: раније без датума, сада 2011-12-31",
+            "правилник: раније важећи правилник, сада стари приручник",
+        ];
+        assert_eq!(
+            words(&crest, &dated(20_111_231), Language::Serbian),
+            expected
+        );
         let lengths = words(&mountain, &crest, Language::English);
         assert!(lengths.iter().any(|line| line.ends_with("mm shorter")));
     }

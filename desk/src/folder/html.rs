@@ -97,6 +97,7 @@ mod tests {
         );
         let road = Road {
             name: "<b> \".alignment".into(),
+            contract: None,
             outcome: Outcome::Listed {
                 length: 1_500,
                 rows: 3,

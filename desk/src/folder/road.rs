@@ -3,6 +3,8 @@
 use std::ffi::{OsStr, OsString};
 use std::path::Path;
 
+use reference::file::{read, Contract};
+
 use crate::fault::Fault;
 use crate::folder::inputs::target;
 use crate::folder::put;
@@ -15,6 +17,8 @@ use crate::{reading, report, rows};
 /// What became of a file.
 pub struct Road {
     pub name: OsString,
+    /// None where the file was not read, or could not be.
+    pub contract: Option<Contract>,
     pub outcome: Outcome,
     /// List and page stood from an earlier run.
     pub is_unchanged: bool,
@@ -43,15 +47,15 @@ pub struct Run<'r> {
 impl Run<'_> {
     /// Makes list and page of a file where they do not stand already.
     pub fn road(&self, name: &OsStr) -> Road {
-        let (outcome, is_unchanged) = match self.made(name) {
-            Ok(made) => made,
-            Err(Fault::Use(why) | Fault::Failed(why)) => (Outcome::Failed(why), false),
-        };
-        Road {
-            name: name.to_os_string(),
-            outcome,
-            is_unchanged,
-        }
+        self.made(name).unwrap_or_else(|fault| {
+            let (Fault::Use(why) | Fault::Failed(why)) = fault;
+            Road {
+                name: name.to_os_string(),
+                contract: None,
+                outcome: Outcome::Failed(why),
+                is_unchanged: false,
+            }
+        })
     }
 
     /// Whether the list has more bytes; it is not held.
@@ -63,7 +67,7 @@ impl Run<'_> {
         reading::alignment(self.from.join(name).as_os_str(), self.language)
     }
 
-    fn made(&self, name: &OsStr) -> Result<(Outcome, bool), Fault> {
+    fn made(&self, name: &OsStr) -> Result<Road, Fault> {
         let file = self.file(name)?;
         let (list, outcome) = listed(&file);
         let list_path = self.to.join(target(name, "list"));
@@ -79,7 +83,12 @@ impl Run<'_> {
             put(&list_path, &list, self.language)?;
             put(&page_path, page.as_bytes(), self.language)?;
         }
-        Ok((outcome, stands))
+        Ok(Road {
+            name: name.to_os_string(),
+            contract: read(&file).ok().map(|alignment| alignment.contract),
+            outcome,
+            is_unchanged: stands,
+        })
     }
 }
 

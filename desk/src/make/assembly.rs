@@ -4,8 +4,8 @@ use crate::language::Language;
 use crate::make::item::{too_long, Item};
 use crate::make::order::Order;
 use crate::make::Made;
-use crate::text::lines::{Part, Role};
-use crate::text::numbers::put;
+use crate::text::lines::{Part, Role, DATED};
+use crate::text::numbers::{number_at, put};
 use crate::text::MOST_BYTES;
 use crate::words::make as words;
 use crate::words::text::NAMED;
@@ -43,7 +43,11 @@ impl Assembly {
         }
     }
 
-    pub fn add(&mut self, at: usize, item: Item) -> Result<(), String> {
+    pub fn add(&mut self, at: usize, mut item: Item) -> Result<(), String> {
+        if self.is_read_as_dated(&item) {
+            let words = self.language.say(words::READ_AS_DATED, &[&DATED]);
+            item.remarks.push(words);
+        }
         match item.line.role {
             Role::Of(part) => {
                 self.order.add(at, item.line, part, item.has_ending);
@@ -64,6 +68,12 @@ impl Assembly {
             true => Err(too_long(language)),
             false => Ok(()),
         }
+    }
+
+    /// Whether the class at the beginning of the file is the number that a contract date follows.
+    fn is_read_as_dated(&self, item: &Item) -> bool {
+        let is_first_class = item.line.role == Role::Of(Part::Class) && self.bytes.is_empty();
+        is_first_class && matches!(number_at(&item.bytes, 0), Ok((DATED, _)))
     }
 
     fn count(&mut self, part: Part) {

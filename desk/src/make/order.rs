@@ -56,7 +56,8 @@ impl Order {
 
     /// What is wrong with the order of the whole text.
     pub fn fault(mut self) -> Result<(), String> {
-        let missing = Part::ALL.iter().find(|part| !self.seen.contains(part));
+        let is_missing = |part: &&Part| !part.is_optional() && !self.seen.contains(part);
+        let missing = Part::ALL.iter().find(is_missing);
         if let Some(part) = missing {
             let keywords = keywords(*part);
             let words = self.language.say(words::NO_PART, &[&keywords, &order()]);
@@ -76,7 +77,11 @@ fn keywords(part: Part) -> String {
     keywords.join("/")
 }
 
-/// The words of a whole alignment, in the file's order.
+/// The words of a whole alignment, in the file's order; one that may be left out in brackets.
 fn order() -> String {
-    Part::ALL.map(keywords).join(", ")
+    let named = Part::ALL.map(|part| match part.is_optional() {
+        true => format!("[{}]", keywords(part)),
+        false => keywords(part),
+    });
+    named.join(", ")
 }

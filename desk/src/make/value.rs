@@ -6,6 +6,7 @@ use std::str::SplitWhitespace;
 use crate::language::Language;
 use crate::make::source::visible;
 use crate::quantity::{is_ambiguous, nearest, unscaled, whole};
+use crate::text::date;
 use crate::text::fields::{Field, Measure};
 use crate::words::make as words;
 
@@ -60,6 +61,12 @@ fn is_of_number(letter: char) -> bool {
     letter.is_ascii_digit() || "+-\u{2212}.,".contains(letter)
 }
 
+/// A number without a sign, and without a 0 before it.
+fn plain_digits(word: &str) -> Option<i128> {
+    let is_plain = |number: &i128| *number >= 0 && number.to_string() == word;
+    whole(word).filter(is_plain)
+}
+
 fn is_unit(word: &str) -> bool {
     UNITS.iter().any(|unit| unit.name == word)
 }
@@ -75,9 +82,10 @@ struct Written<'t> {
 
 impl Written<'_> {
     fn read(&self) -> Result<i64, String> {
-        let value = match self.unit {
-            "" => self.plain()?,
-            _ => self.with_unit()?,
+        let value = match (self.field.measure, self.unit) {
+            (Measure::Day, _) => self.date()?,
+            (_, "") => self.plain()?,
+            (_, _) => self.with_unit()?,
         };
         let (least, most) = self.field.writable();
         let written = i64::try_from(value).ok();
@@ -88,6 +96,14 @@ impl Written<'_> {
             let unit = unit.map_or(String::new(), |unit| format!(" {}", unit.name));
             self.wrong(words::UNWRITABLE, &[&range[0], &range[1], &unit])
         })
+    }
+
+    /// `2011-12-31` or `20111231`
+    fn date(&self) -> Result<i128, String> {
+        let with_dashes = date::number(self.number).map(i128::from);
+        let number = with_dashes.or_else(|| plain_digits(self.number));
+        let alone = number.filter(|_| self.unit.is_empty());
+        alone.ok_or_else(|| self.wrong(words::NO_DATE, &[]))
     }
 
     fn plain(&self) -> Result<i128, String> {
@@ -144,7 +160,7 @@ impl Written<'_> {
 #[cfg(test)]
 mod tests {
     use super::*;
-    use crate::text::fields::{CLASS, GRADE, LENGTH, RADIUS};
+    use crate::text::fields::{CLASS, DATE, GRADE, LENGTH, RADIUS};
 
     fn value(line: &str, field: &Field) -> Result<Option<i64>, String> {
         next(
@@ -170,6 +186,33 @@ mod tests {
         }
         assert_eq!(value("", &LENGTH), Ok(None));
         assert_eq!(value("-0", &LENGTH), Ok(Some(0)));
+    }
+
+    #[test]
+    fn dates() {
+        assert_eq!(value("2011-12-31", &DATE), Ok(Some(20_111_231)));
+        assert_eq!(value("20111231", &DATE), Ok(Some(20_111_231)));
+        assert_eq!(value("2011-02-30", &DATE), Ok(Some(20_110_230)));
+        assert_eq!(value("0", &DATE), Ok(Some(0)));
+        assert_eq!(value("4294967295", &DATE), Ok(Some(4_294_967_295)));
+        for word in [
+            "31.12.2011.",
+            "2011-2-3",
+            "2011-12-31x",
+            "20111231 m",
+            "+20090615",
+            "020090615",
+            "-5",
+            "-0",
+            "00",
+            "soon",
+        ] {
+            let wrong = value(word, &DATE).expect_err(word);
+            let no_date = "is no date; a date is written as `2011-12-31` or `20111231`";
+            assert_eq!(wrong, format!("`{word}` {no_date}"));
+        }
+        let beyond = value("4294967296", &DATE).expect_err("too great");
+        assert!(beyond.ends_with("the numbers here go from 0 to 4,294,967,295"));
     }
 
     #[test]

@@ -19,6 +19,14 @@ fn signed(value: i64, out: &mut Vec<u8>) {
     number(written as u64, out);
 }
 
+/// A file with a contract date before its class.
+pub fn dated(date: u64, file: &[u8]) -> Vec<u8> {
+    let mut out = vec![9];
+    number(date, &mut out);
+    out.extend_from_slice(file);
+    out
+}
+
 /// A road by its numbers: elements are kind, length and radius; tangents length, grade and half length.
 pub struct Sample {
     pub head: [u64; 4],

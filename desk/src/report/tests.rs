@@ -3,7 +3,7 @@
 use super::drawing::canvas::{Anchor, Area, Label, Size};
 use super::drawing::sheet::WIDTH;
 use super::marks::marks;
-use super::sample::{Chance, Sample};
+use super::sample::{dated, Chance, Sample};
 use super::view::View;
 use super::{page, refused};
 use crate::language::Language;
@@ -12,6 +12,7 @@ use crate::why::Finding;
 const CREST: &[u8] = include_bytes!("../../../examples/crest.alignment");
 const MOUNTAIN: &[u8] = include_bytes!("../../../examples/mountain-access-road.alignment");
 const LONG: &[u8] = include_bytes!("../../../examples/long-access-road.alignment");
+const DATED: &[u8] = include_bytes!("../../../examples/contract-of-2009.alignment");
 const LANGUAGES: [Language; 2] = [Language::English, Language::Serbian];
 
 /// The text between two others.
@@ -114,7 +115,7 @@ fn is_over(one: &Area, other: &Area) -> bool {
 
 #[test]
 fn no_label_over_another_on_the_sample_roads() {
-    for file in [CREST, MOUNTAIN, LONG] {
+    for file in [CREST, MOUNTAIN, LONG, DATED] {
         for language in LANGUAGES {
             let page = page("road", file, language).expect("agreed");
             assert!(!page.is_refused);
@@ -182,10 +183,45 @@ fn refused_roads_of_every_kind() {
     let mut chance = Chance(2);
     for round in 0..300 {
         let file = any_road(&mut chance).file();
+        let file = match chance.within(0, 2) {
+            0 => file,
+            1 => dated(20_111_231, &file),
+            _ => dated(20_120_101, &file),
+        };
         let page = page("road", &file, LANGUAGES[round % 2]).expect("agreed");
         assert!(page.is_refused);
         assert!(checked_labels(&page.html) > 10);
     }
+}
+
+#[test]
+fn the_head_has_the_contract_date_and_its_rule_book() {
+    let fact = |name: &str, value: &str| format!("<div><b>{name}</b> <span>{value}</span></div>\n");
+    let old = page("road", DATED, Language::English).expect("agreed").html;
+    let date = fact("contract date", "2009-06-15");
+    assert!(old.contains(&(date + &fact("rule book", "old handbook"))));
+    let today = dated(20_120_101, CREST);
+    let today = page("road", &today, Language::Serbian)
+        .expect("agreed")
+        .html;
+    assert!(today.contains(&fact("датум уговора", "2012-01-01")));
+    assert!(today.contains(&fact("правилник", "важећи правилник")));
+    let plain = page("road", CREST, Language::English).expect("agreed").html;
+    assert!(!plain.contains("<b>contract date</b>"));
+    assert!(plain.contains(&fact(
+        "rule book",
+        "today&#39;s rule book (no contract date)"
+    )));
+}
+
+#[test]
+fn a_contract_date_that_is_no_day_shows_its_bytes() {
+    let page = page("road", &dated(20_110_230, CREST), Language::English).expect("agreed");
+    assert!(page.is_refused);
+    assert!(page.html.contains("<p>Refused: R 22 1 (byte 1)</p>"));
+    let bytes = "    0  09 <b class=\"bad\">96</b> B7 CB 09 04 03 ";
+    assert!(page.html.contains(bytes), "{}", page.html);
+    assert!(!page.html.contains("design speed"));
 }
 
 #[test]

@@ -50,7 +50,7 @@ impl<'a> View<'a> {
         View {
             language,
             alignment,
-            lane_width: limits(alignment.class, alignment.terrain).lane_width,
+            lane_width: limits(alignment).lane_width,
             bends: bends(alignment),
             profile: Profile::new(alignment),
             end: end.max().unwrap_or(1),

@@ -1,11 +1,13 @@
-//! The comments that a text begins with: the file's length, its refusal, speed, lane width and limits of the road.
+//! The comments that a text begins with: the file's length, its refusal, rule book, speed, lane width and limits of the road.
+
+use reference::file::Contract;
 
 use crate::language::Language;
 use crate::refusals::counted;
-use crate::rule_book::{class_name, lines, terrain_name};
+use crate::rule_book::{book_line, class_name, lines, terrain_name};
 use crate::show::line::comments as put;
 use crate::show::mark::rule;
-use crate::text::file::Numbers;
+use crate::text::file::{Item, Numbers};
 use crate::text::lines::Part;
 use crate::text::MOST_BYTES;
 use crate::words::show as words;
@@ -43,16 +45,30 @@ fn refused(refusal: proved::Refusal, language: Language) -> String {
     language.say(words::REFUSAL, &values)
 }
 
-/// What class and terrain decide, once both are read and in their ranges.
+/// What contract date, class and terrain decide, once they are read and in their ranges.
 fn limits(numbers: &Numbers, language: Language) -> Vec<String> {
     let class = numbers.single(Part::Class);
-    let Some((class, terrain)) = class.zip(numbers.single(Part::Terrain)) else {
+    let class_and_terrain = class.zip(numbers.single(Part::Terrain));
+    let Some(((class, terrain), contract)) = class_and_terrain.zip(contract(numbers)) else {
         return Vec::new();
     };
     let (class, terrain) = (class.into(), terrain.into());
     let names = [class_name(class), terrain_name(terrain)].map(|name| language.say(name, &[]));
     let mut out = vec![names.join(", ")];
-    let lines = lines(class, terrain, language).into_iter();
+    let book = book_line(contract, language);
+    let lines = lines(class, terrain, contract, language);
+    let lines = [book].into_iter().chain(lines);
     out.extend(lines.map(|line| language.say(NAMED, &[&line.name, &line.value])));
     out
+}
+
+/// None where the contract date is no day.
+fn contract(numbers: &Numbers) -> Option<Contract> {
+    let first = numbers.entries.first()?;
+    match first.item == Item::Single(Part::Date) {
+        false => Some(Contract::Undated),
+        true => numbers
+            .single(Part::Date)
+            .map(|date| Contract::Dated(date.into())),
+    }
 }

@@ -38,11 +38,11 @@ impl Show<'_> {
             Item::Listed(part, index) => (line_of(part, entry), self.remark(part, index, entry)),
         };
         let mut line = Line::new(entry.from, Some(entry.item), written, remark);
-        line.begins_part = matches!(
+        let begins_part = matches!(
             entry.item,
-            Item::Single(Part::Class | Part::Start)
-                | Item::Count(Part::Elements | Part::Crossfalls)
+            Item::Single(Part::Start) | Item::Count(Part::Elements | Part::Crossfalls)
         );
+        line.begins_part = begins_part || entry.from == 0;
         let outside = entry
             .numbers
             .iter()
@@ -59,6 +59,7 @@ impl Show<'_> {
         };
         let remark = self.name(item, number);
         let mut line = Line::new(number.at, Some(item), written, remark);
+        line.begins_part = number.at == 0;
         line.above = self.outside(item, number).into_iter().collect();
         line
     }
@@ -142,13 +143,12 @@ pub fn name(item: Item, field: Phrase, language: Language) -> String {
     format!("{} {index}, {field}", language.say(kind, &[]))
 }
 
-/// What `make` reads: the word of the line and its values; an element's kind is in the word.
+/// What `make` reads: the word of the line and its values; the number before them is in the word.
 fn line_of(part: Part, entry: &Entry) -> String {
-    let mut values: Vec<i64> = entry.numbers.iter().map(|number| number.value).collect();
-    let kind = (part == Part::Elements).then(|| values.remove(0));
-    let line = lines::of(part, kind);
+    let (kind, values) = entry.numbers.split_at(usize::from(part.has_kind()));
+    let line = lines::of(part, kind.first().map(|number| number.value));
     let mut words = vec![line.map_or("", |line| line.keyword).to_string()];
-    words.extend(values.iter().map(i64::to_string));
+    words.extend(values.iter().map(|n| n.field.in_text(n.value)));
     if part == Part::Tangents && values.len() == 3 {
         words.insert(3, CURVE.to_string());
     }

@@ -7,13 +7,13 @@ use crate::text::file::Item;
 use crate::text::lines::Part;
 use crate::words::show as words;
 
-/// The byte that a refusal names; none from 5 on.
+/// The byte that a refusal of reading names; none of any other.
 pub fn byte(refusal: proved::Refusal) -> Option<usize> {
-    let is_reading = refusal.number() <= 4;
+    let is_reading = matches!(refusal.number(), 1..=4 | 22);
     usize::try_from(refusal.place()).ok().filter(|_| is_reading)
 }
 
-/// The list and the item that a refusal from 5 on names; refusal 6 is about all tangents.
+/// The list and the item that a refusal from 5 to 19 names; refusal 6 is about all tangents.
 fn item(refusal: proved::Refusal) -> (Part, Option<usize>) {
     let index = usize::try_from(refusal.place()).ok();
     match refusal.number() {

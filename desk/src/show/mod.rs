@@ -72,7 +72,7 @@ pub fn text(file: &[u8], language: Language) -> Result<String, String> {
     Ok(out)
 }
 
-/// Refusals 1 to 4 by this reading are the library's.
+/// Refusals 1 to 4 and 22 by this reading are the library's.
 fn hold_against(
     refusal: Option<proved::Refusal>,
     numbers: &Numbers,

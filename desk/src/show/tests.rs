@@ -46,7 +46,7 @@ fn each_refusal_is_marked_where_it_is() {
         "crossfall 0 -25000 -25000",
         "arc 40000 50000",
     ];
-    for (number, item) in (1..).zip(items) {
+    for (number, item) in (1..).zip(items).chain([(22, "date 2009-02-29")]) {
         let text = shown_text(&example(&format!("refusal-{number:02}")));
         let line = marked(&text, number);
         let words: Vec<&str> = line.split_whitespace().collect();
@@ -72,10 +72,71 @@ fn a_mark_at_the_end_of_a_list() {
 fn a_listed_road() {
     let text = shown_text(&example("crest"));
     assert!(
-        text.starts_with("# bytes: 48\n# access road, mountain terrain\n# design speed: 40 km/h\n")
+        text.starts_with("# bytes: 48\n# access road, mountain terrain\n# rule book: today's rule book (no contract date)\n# design speed: 40 km/h\n")
     );
     assert!(text.contains("# lane width: 2.75 m\n") && text.contains("# elements: 1\n"));
     assert!(!text.contains("refusal"));
+}
+
+/// The crest with a contract date.
+fn dated(date: &str) -> Vec<u8> {
+    let crest = shown_text(&example("crest"));
+    made(&format!("date {date}\n{crest}"))
+}
+
+#[test]
+fn a_dated_road() {
+    let text = shown_text(&dated("20111231"));
+    assert!(text.contains("\n\ndate 2011-12-31\nclass 4\nterrain 3\n"));
+    let head = "# bytes: 53\n# access road, mountain terrain\n# rule book: old handbook\n# design speed: 40 km/h\n";
+    assert!(text.starts_with(head), "{text}");
+    assert!(text.contains("# least clothoid length: 30 m\n") && !text.contains("A min"));
+    assert!(!text.contains("refusal"));
+    let text = shown_text(&dated("2012-01-01"));
+    assert!(text.contains("# rule book: today's rule book\n") && text.contains("# A min: 35 m\n"));
+}
+
+#[test]
+fn a_contract_date_that_is_no_day() {
+    let range = "a day from 1950-01-01 to 2099-12-31";
+    for date in ["2011-02-30", "0", "1949-12-31", "2100-01-01", "4294967295"] {
+        let file = dated(date);
+        let text = shown_text(&file);
+        let told =
+            format!("# byte 1, contract date: {date} is not {range}\ndate {date}\nclass 4\n");
+        assert!(text.contains(&told), "{text}");
+        assert_eq!(marked(&text, 22), format!("date {date}"));
+        assert!(!text.contains("design speed"));
+        assert_eq!(made(&text), file);
+    }
+}
+
+#[test]
+fn a_dated_file_that_breaks_off() {
+    let file = dated("2011-12-31");
+    let layout = "\n\nnumber 9                                # layout\n";
+    let due = "# byte 1, contract date: the file ends where this number is due\nbytes\n";
+    assert!(shown_text(&file[..1]).contains(layout));
+    assert!(shown_text(&file[..1]).ends_with(due));
+    let text = shown_text(&file[..3]);
+    let broken =
+        "# byte 1, contract date: the number breaks off at the end of the file\nbytes ff be\n";
+    assert!(text.contains(layout) && text.ends_with(broken), "{text}");
+    assert_eq!(marked(&text, 2), "bytes ff be");
+    let text = shown_text(&file[..5]);
+    let class = "# byte 5, class: the file ends where this number is due\nbytes\n";
+    assert!(text.contains("\ndate 2011-12-31\n") && text.ends_with(class));
+    for length in 0..file.len() {
+        assert_eq!(made(&shown_text(&file[..length])), &file[..length]);
+    }
+}
+
+#[test]
+fn a_class_that_is_no_class() {
+    let dated = shown_text(&made("date 2011-12-31\nclass 9\nbytes"));
+    assert_eq!(marked(&dated, 3), "class 9");
+    let plain = shown_text(&made("class 10\nbytes"));
+    assert_eq!(marked(&plain, 3), "class 10");
 }
 
 #[test]

@@ -1,6 +1,10 @@
 //! The fields of a file: what each measures, and its range by document 01.
 
+use reference::day::is_day;
+
 use crate::language::Language;
+use crate::text::date;
+use crate::text::lines::DATED;
 use crate::text::numbers::GREATEST;
 use crate::words::text as words;
 use crate::words::Phrase;
@@ -14,6 +18,8 @@ pub enum Measure {
     Length,
     /// Parts per million, or percent.
     Share,
+    /// Year × 10,000 + month × 100 + day.
+    Day,
 }
 
 #[derive(Clone, Copy, Debug)]
@@ -45,6 +51,9 @@ const fn signed(name: Phrase, measure: Measure, least: i64, most: i64) -> Field 
     }
 }
 
+/// The number that a file with a contract date begins with.
+pub const LAYOUT: Field = unsigned(words::LAYOUT, Measure::Plain, DATED, DATED);
+pub const DATE: Field = unsigned(words::DATE, Measure::Day, 19_500_101, 20_991_231);
 pub const CLASS: Field = unsigned(words::CLASS, Measure::Plain, 1, 4);
 pub const TERRAIN: Field = unsigned(words::TERRAIN, Measure::Plain, 1, 3);
 pub const STEP: Field = unsigned(words::STEP, Measure::Length, 1_000, 100_000);
@@ -84,10 +93,29 @@ impl Field {
 
     pub fn is_within(&self, value: i64) -> bool {
         let compared = if self.in_size { value.abs() } else { value };
-        (self.least..=self.most).contains(&compared)
+        match self.measure {
+            Measure::Day => is_day(value.into()),
+            _ => (self.least..=self.most).contains(&compared),
+        }
     }
 
-    /// The nearest value in the range, of the same sign where the range is one of the size.
+    /// The refusal of a value that is not in the range.
+    pub fn refusal(&self) -> u32 {
+        match self.measure {
+            Measure::Day => 22,
+            _ => 3,
+        }
+    }
+
+    /// A value as a line of the text has it.
+    pub fn in_text(&self, value: i64) -> String {
+        match self.measure {
+            Measure::Day => date::with_dashes(value),
+            _ => value.to_string(),
+        }
+    }
+
+    /// The nearest value in the range, of the same sign where the range is one of the size; not for days.
     pub fn nearest(&self, value: i64) -> i64 {
         match self.in_size && value < 0 {
             true => -(-value).clamp(self.least, self.most),
@@ -95,12 +123,16 @@ impl Field {
         }
     }
 
-    /// `1,000 to 100,000 mm`
+    /// `1,000 to 100,000 mm`, `a day from 1950-01-01 to 2099-12-31`
     pub fn range(&self, language: Language) -> String {
-        let ends = [self.least, self.most].map(|end| language.number(end.into()));
-        let range = language.say(words::FROM_TO, &[&ends[0], &ends[1]]);
+        let phrase = match self.measure {
+            Measure::Day => words::DAY_FROM_TO,
+            _ => words::FROM_TO,
+        };
+        let ends = [self.least, self.most].map(|end| self.end(end, language));
+        let range = language.say(phrase, &[&ends[0], &ends[1]]);
         let range = match self.measure {
-            Measure::Plain => range,
+            Measure::Plain | Measure::Day => range,
             Measure::Length => range + " mm",
             Measure::Share => range + " ppm",
         };
@@ -110,9 +142,20 @@ impl Field {
         }
     }
 
-    /// `5 is outside 1,000 to 100,000 mm`
+    fn end(&self, value: i64, language: Language) -> String {
+        match self.measure {
+            Measure::Day => date::with_dashes(value),
+            _ => language.number(value.into()),
+        }
+    }
+
+    /// `5 is outside 1,000 to 100,000 mm`, `2011-02-30 is not a day from 1950-01-01 to 2099-12-31`
     pub fn outside(&self, value: i64, language: Language) -> String {
-        language.say(words::OUTSIDE, &[&value, &self.range(language)])
+        let phrase = match self.measure {
+            Measure::Day => words::IS_NOT,
+            _ => words::OUTSIDE,
+        };
+        language.say(phrase, &[&self.in_text(value), &self.range(language)])
     }
 }
 
@@ -133,5 +176,16 @@ mod tests {
         );
         assert!(CLASS.is_within(4) && !CLASS.is_within(0));
         assert_eq!(SIGNED.writable(), (-2_147_483_648, 2_147_483_647));
+    }
+
+    #[test]
+    fn days() {
+        assert!(DATE.is_within(20_000_229) && !DATE.is_within(20_110_229));
+        assert!(!DATE.is_within(19_491_231) && !DATE.is_within(21_000_101));
+        assert_eq!((DATE.refusal(), CLASS.refusal()), (22, 3));
+        assert_eq!(
+            DATE.outside(20_110_230, Language::English),
+            "2011-02-30 is not a day from 1950-01-01 to 2099-12-31"
+        );
     }
 }

@@ -1,7 +1,7 @@
 //! A file as its numbers, as far as they can be told, however damaged it is.
 
 use crate::text::fields::{self, Field};
-use crate::text::lines::Part;
+use crate::text::lines::{Part, DATED};
 use crate::text::numbers::{number_at, signed_value, Faulty};
 
 /// What a number belongs to; items of a list are counted from 0.
@@ -60,12 +60,12 @@ pub fn numbers(bytes: &[u8]) -> Numbers {
 }
 
 impl Numbers {
-    /// Refusal 1 to 4 with its place, as this reading has it.
+    /// Refusal 1 to 4 or 22 with its place, as this reading has it.
     pub fn refusal(&self, length: usize) -> Option<(u32, u64)> {
         let all = self.entries.iter().flat_map(|entry| &entry.numbers);
         let outside = all
             .filter(|number| !number.field.is_within(number.value))
-            .map(|number| (3, number.at as u64))
+            .map(|number| (number.field.refusal(), number.at as u64))
             .next();
         let at_end = match self.stop {
             Some(_) => Some((2, self.end as u64)),
@@ -77,10 +77,10 @@ impl Numbers {
         }
     }
 
-    /// The value of a part that is one number, where it is in its range.
+    /// The value of a part that is one number, where it is in its range; a contract date stands after the 9.
     pub fn single(&self, part: Part) -> Option<i64> {
-        let entry = self.entries.iter().find(|e| e.item == Item::Single(part))?;
-        let number = entry.numbers.first()?;
+        let is_part = |entry: &&Entry| entry.item == Item::Single(part) && entry.is_whole;
+        let number = self.entries.iter().find(is_part)?.numbers.last()?;
         number.field.is_within(number.value).then_some(number.value)
     }
 
@@ -100,6 +100,9 @@ struct Walk<'f> {
 
 impl Walk<'_> {
     fn file(&mut self) -> Result<(), Stop> {
+        if let Ok((DATED, _)) = number_at(self.bytes, 0) {
+            self.item(Item::Single(Part::Date), Self::contract)?;
+        }
         self.single(Part::Class, &fields::CLASS)?;
         self.single(Part::Terrain, &fields::TERRAIN)?;
         self.single(Part::Step, &fields::STEP)?;
@@ -108,6 +111,12 @@ impl Walk<'_> {
         self.single(Part::Start, &fields::START)?;
         self.list(Part::Tangents, &fields::TANGENT_COUNT, Self::tangent)?;
         self.list(Part::Crossfalls, &fields::POINT_COUNT, Self::point)
+    }
+
+    fn contract(&mut self) -> Result<(), Stop> {
+        self.take(&fields::LAYOUT)?;
+        self.take(&fields::DATE)?;
+        Ok(())
     }
 
     fn single(&mut self, part: Part, field: &'static Field) -> Result<(), Stop> {
@@ -207,6 +216,27 @@ mod tests {
         let crest = include_bytes!("../../../examples/crest.alignment");
         assert_eq!(refusal(crest), None);
         assert_eq!(refusal(&[&crest[..], &[0]].concat()), Some((4, 48)));
+    }
+
+    #[test]
+    fn a_file_that_begins_with_9() {
+        let refusal = |bytes: &[u8]| numbers(bytes).refusal(bytes.len());
+        let day = [9, 0xFF, 0xBE, 0xCB, 0x09]; // 2011-12-31
+        assert_eq!(numbers(&day).single(Part::Date), Some(20_111_231));
+        assert_eq!(refusal(&[9]), Some((2, 1)));
+        assert_eq!(refusal(&[9, 0xFF, 0xBE]), Some((2, 1)));
+        assert_eq!(refusal(&[9, 0x80, 0]), Some((2, 1)));
+        assert_eq!(refusal(&[0x89, 0]), Some((2, 0)));
+        assert_eq!(refusal(&[9, 4, 3]), Some((22, 1)));
+        assert_eq!(refusal(&[9, 0, 5]), Some((22, 1)));
+        assert_eq!(refusal(&[&day[..], &[9]].concat()), Some((3, 5)));
+        assert_eq!(refusal(&[&day[..], &[4]].concat()), Some((2, 6)));
+        assert_eq!(refusal(&[10, 4]), Some((3, 0)));
+        let crest = include_bytes!("../../../examples/crest.alignment");
+        let dated = [&day[..], crest].concat();
+        assert_eq!(refusal(&dated), None);
+        assert_eq!(refusal(&[&dated[..], &[0]].concat()), Some((4, 53)));
+        assert_eq!(numbers(crest).single(Part::Date), None);
     }
 
     #[test]

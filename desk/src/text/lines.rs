@@ -5,6 +5,7 @@ use crate::text::fields::{self, Field};
 /// A part of the file, in the file's order.
 #[derive(Clone, Copy, Debug, PartialEq, Eq, PartialOrd, Ord)]
 pub enum Part {
+    Date,
     Class,
     Terrain,
     Step,
@@ -16,7 +17,8 @@ pub enum Part {
 }
 
 impl Part {
-    pub const ALL: [Part; 8] = [
+    pub const ALL: [Part; 9] = [
+        Part::Date,
         Part::Class,
         Part::Terrain,
         Part::Step,
@@ -36,6 +38,16 @@ impl Part {
             _ => None,
         }
     }
+
+    /// A file may be without a contract date.
+    pub fn is_optional(self) -> bool {
+        self == Part::Date
+    }
+
+    /// Whether a number stands before the fields of the part or of its items.
+    pub fn has_kind(self) -> bool {
+        matches!(self, Part::Date | Part::Elements)
+    }
 }
 
 /// What a line is to the file.
@@ -54,7 +66,7 @@ pub enum Role {
 pub struct Line {
     pub keyword: &'static str,
     pub role: Role,
-    /// The number before the fields: an element's kind.
+    /// The number before the fields: an element's kind, or the 9 before a contract date.
     pub kind: Option<i64>,
     pub fields: &'static [Field],
     /// The word and the field that may follow: `curve` and a half length.
@@ -98,11 +110,23 @@ const fn tangent(example: &'static str) -> Line {
     }
 }
 
+/// "A file beginning with 9 has the contract date next".
+pub const DATED: i64 = 9;
+
 /// The word before a half length.
 pub const CURVE: &str = "curve";
 
 /// The lines of a whole alignment, in the file's order.
 pub const WHOLE: &[Line] = &[
+    Line {
+        kind: Some(DATED),
+        ..line(
+            "date",
+            Role::Of(Part::Date),
+            &[fields::DATE],
+            "date 2011-12-31",
+        )
+    },
     line("class", Role::Of(Part::Class), &[fields::CLASS], "class 4"),
     line(
         "terrain",

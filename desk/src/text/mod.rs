@@ -1,5 +1,6 @@
 //! The text of an alignment file: its lines, what stands in each, and the numbers that they are written as.
 
+pub mod date;
 pub mod fields;
 pub mod file;
 pub mod lines;

@@ -16,6 +16,7 @@ pub fn format(language: Language) -> String {
     [
         say(words::FORMAT),
         rows(WHOLE, language),
+        say(words::DATES),
         say(words::SIGNS),
         say(words::UNITS),
         say(words::ESCAPES),
@@ -80,5 +81,7 @@ mod tests {
             );
         }
         assert!(format.contains("radius, 10,000 to 10,000,000 mm in size"));
+        let date = "contract date, a day from 1950-01-01 to 2099-12-31";
+        assert!(format.contains(&format!("    date 2011-12-31{}{date}\n", " ".repeat(22))));
     }
 }

@@ -45,7 +45,7 @@ fn unread(refused: &Refused, language: Language) -> Finding {
         place: refusal.place,
         title: title(refusal, language),
         facts: unread::told(refused, language),
-        changes: Vec::new(),
+        changes: unread::changes(refused),
     }
 }
 

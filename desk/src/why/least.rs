@@ -1,7 +1,7 @@
 //! The least values that keep a rule.
 
 use reference::file::{Alignment, CrossfallPoint, Kind};
-use reference::limits::Limits;
+use reference::limits::{LeastClothoid, Limits};
 use reference::road;
 
 /// Document 01 has these for every speed.
@@ -30,10 +30,7 @@ pub fn element_length(
         8 => limits.straight_max,
         9 => limits.straight_min,
         11 => Some(limits.arc_min),
-        12 => Some(clothoid(
-            limits,
-            road::arc_of_clothoid(alignment, place).radius,
-        )),
+        12 => clothoid_at(alignment, limits, place),
         _ => None,
     }
 }
@@ -47,10 +44,31 @@ pub fn kind_due(place: usize) -> Kind {
     }
 }
 
-/// The least length of a clothoid beside an arc: A min squared / R.
+/// The least length of the clothoid at a place; none where A min asks for an arc beside it and there is none.
+pub fn clothoid_at(alignment: &Alignment, limits: &Limits, place: usize) -> Option<i128> {
+    let radius = arc_beside(alignment, place).map(|arc| alignment.elements[arc].radius);
+    match (limits.clothoid, radius) {
+        (LeastClothoid::Length(length), _) => Some(length),
+        (_, radius) => radius.map(|radius| clothoid(limits, radius)),
+    }
+}
+
+/// The arc of the clothoid at a place: the next element, or the one before.
+pub fn arc_beside(alignment: &Alignment, place: usize) -> Option<usize> {
+    let is_arc = |&place: &usize| {
+        let element = alignment.elements.get(place);
+        element.is_some_and(|element| element.kind == Kind::Arc)
+    };
+    let before = place.checked_sub(1);
+    [Some(place + 1), before].into_iter().flatten().find(is_arc)
+}
+
+/// The least length of a clothoid beside an arc: A min squared / R, by the old handbook a length of its own.
 pub fn clothoid(limits: &Limits, radius: i128) -> i128 {
-    let squared = limits.clothoid_parameter_min * limits.clothoid_parameter_min;
-    rounded_up(squared, radius.abs())
+    match limits.clothoid {
+        LeastClothoid::Parameter(parameter) => rounded_up(parameter * parameter, radius.abs()),
+        LeastClothoid::Length(length) => length,
+    }
 }
 
 /// The radius that a vertical curve between two grades has to reach.
@@ -114,12 +132,13 @@ pub fn crossfall(value: i128) -> i128 {
 #[cfg(test)]
 mod tests {
     use super::*;
-    use reference::limits::{limits_at, SPEEDS};
+    use reference::file::Contract;
+    use reference::limits::{limits_at, LeastClothoid, SPEEDS};
 
     /// The starred items of document 01, at 40 km/h.
     #[test]
     fn starred_items() {
-        let limits = limits_at(40);
+        let limits = limits_at(40, Contract::Undated);
         assert_eq!(clothoid(&limits, 45_000), 27_223);
         assert_eq!(clothoid(&limits, -45_000), 27_223);
         assert_eq!(half_length(&limits, 20_000, -20_000), 8_000);
@@ -129,12 +148,27 @@ mod tests {
         assert_eq!(ramp_limit(&road, &limits, 0), Some(5_001));
     }
 
+    /// The old handbook has a length for each speed, whatever the radius.
+    #[test]
+    fn clothoids_of_the_old_handbook() {
+        let lengths = SPEEDS.map(|speed| {
+            let limits = limits_at(speed, Contract::Dated(20_111_231));
+            let [short, long] = [10_000, -10_000_000].map(|radius| clothoid(&limits, radius));
+            assert_eq!(short, long);
+            short / 1_000
+        });
+        assert_eq!(lengths, [30, 40, 50, 60, 70, 90, 100]);
+    }
+
     /// The least keeps its rule and one millimetre less breaks it, at every speed.
     #[test]
     fn one_less_breaks_the_rule() {
         for speed in SPEEDS {
-            let limits = limits_at(speed);
-            let squared = limits.clothoid_parameter_min.pow(2);
+            let limits = limits_at(speed, Contract::Undated);
+            let LeastClothoid::Parameter(parameter) = limits.clothoid else {
+                panic!("today's rule book has a parameter");
+            };
+            let squared = parameter.pow(2);
             for radius in [limits.radius_min, 999_983, -1_234_567, 10_000_000] {
                 let least = clothoid(&limits, radius);
                 assert!(least * radius.abs() >= squared);

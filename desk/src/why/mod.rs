@@ -1,6 +1,7 @@
 //! `why`: every broken rule of a refused file, and what would mend it.
 
 mod cross_section;
+mod date;
 mod findings;
 mod least;
 mod limits;

@@ -65,7 +65,7 @@ impl Moves<'_> {
     }
 
     fn least_half_length(&self, vertex: usize) -> i128 {
-        let limits = limits(self.old.class, self.old.terrain);
+        let limits = limits(self.old);
         let grades = [vertex, vertex + 1].map(|place| self.old.tangents[place].grade);
         least::half_length(&limits, grades[0], grades[1])
     }

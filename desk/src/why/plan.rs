@@ -1,11 +1,11 @@
 //! The rules of the plan told, 5 and 7 to 12.
 
 use reference::file::Kind;
-use reference::road;
+use reference::limits::LeastClothoid;
 
 use super::least;
 use super::teller::Teller;
-use crate::rule_book::metres;
+use crate::rule_book::{clothoid_limit, metres};
 use crate::words::{limits as names, why as words, Phrase};
 
 pub fn told(teller: &Teller, number: i128, place: usize) -> Vec<String> {
@@ -114,12 +114,24 @@ fn radius(teller: &Teller, place: usize) -> Vec<String> {
     };
     let (turn, stretch) = (teller.say(turn, &[]), teller.element(place));
     let number = teller.number(radius.abs());
-    vec![
+    let other = teller.other_limits().radius_min;
+    let limit = metres(other, teller.language);
+    let in_other_book =
+        (radius.abs() >= other).then(|| teller.kept_by_other_book(names::RADIUS_MIN, limit));
+    let facts = vec![
         teller.say(words::NUMBERS_10, &[&number, &turn, &stretch]),
-        teller.limit_at_speed(names::RADIUS_MIN, metres(least, teller.language)),
-        teller.source_with_speed(words::SOURCE_10),
+        teller.limit_of_book(names::RADIUS_MIN, metres(least, teller.language)),
+        teller.source_of_book(words::SOURCE_10, words::SOURCE_10_OLD),
         teller.passes(teller.at_least(words::RADIUS, least, radius.abs())),
-    ]
+    ];
+    with_other_book(facts, in_other_book)
+}
+
+/// What the other rule book says stands beside the limit, before what passes and what then moves.
+fn with_other_book(mut facts: Vec<String>, other: Option<String>) -> Vec<String> {
+    let passes = facts.len() - 1;
+    facts.splice(passes..passes, other);
+    facts
 }
 
 fn arc_too_short(teller: &Teller, place: usize) -> Vec<String> {
@@ -134,16 +146,28 @@ fn arc_too_short(teller: &Teller, place: usize) -> Vec<String> {
 }
 
 fn clothoid(teller: &Teller, place: usize) -> Vec<String> {
-    let parameter = teller.limits.clothoid_parameter_min;
     let length = teller.road.elements[place].length;
-    let radius = road::arc_of_clothoid(teller.road, place).radius;
-    let arc_place = match teller.road.elements.get(place + 1) {
-        Some(next) if next.kind == Kind::Arc => place + 1,
-        _ => place - 1,
+    let facts = match teller.limits.clothoid {
+        LeastClothoid::Parameter(parameter) => clothoid_parameter(teller, place, parameter),
+        LeastClothoid::Length(least) => clothoid_length(teller, place, least),
     };
+    let other = teller.other_limits();
+    let (name, limit) = clothoid_limit(other.clothoid);
+    let limit = metres(limit, teller.language);
+    let least = least::clothoid_at(teller.road, &other, place);
+    let kept = least.filter(|&least| length >= least);
+    let in_other_book = kept.map(|_| teller.kept_by_other_book(name, limit));
+    with_other_book(facts, in_other_book)
+}
+
+/// Today's rule book: length × radius has to reach A min squared.
+fn clothoid_parameter(teller: &Teller, place: usize, parameter: i128) -> Vec<String> {
+    let length = teller.road.elements[place].length;
+    let arc_place = least::arc_beside(teller.road, place).unwrap_or(place);
+    let radius = teller.road.elements[arc_place].radius;
     let (stretch, arc) = (teller.element(place), arc(teller, arc_place));
     let product = teller.number(length * radius.abs());
-    let limit = teller.limit_at_speed(names::CLOTHOID_MIN, metres(parameter, teller.language));
+    let limit = teller.limit_of_book(names::CLOTHOID_MIN, metres(parameter, teller.language));
     let squared = teller.number(parameter * parameter);
     let least = least::clothoid(&teller.limits, radius);
     let passes = [least, least - length].map(|value| teller.number(value));
@@ -152,5 +176,17 @@ fn clothoid(teller: &Teller, place: usize) -> Vec<String> {
         teller.say(words::LIMIT_12, &[&limit, &squared]),
         teller.source_with_speed(words::SOURCE_12),
         teller.passes(teller.say(words::PASSES_12, &[&passes[0], &passes[1]])),
+    ]
+}
+
+/// The old handbook: the length alone has to reach a least one, whatever the radius.
+fn clothoid_length(teller: &Teller, place: usize, least: i128) -> Vec<String> {
+    let length = teller.road.elements[place].length;
+    let limit = metres(least, teller.language);
+    vec![
+        teller.element(place),
+        teller.limit_of_book(names::CLOTHOID_LENGTH_MIN, limit),
+        teller.source_in_old_handbook(words::SOURCE_12_OLD),
+        teller.passes(teller.at_least(words::LENGTH, least, length)),
     ]
 }

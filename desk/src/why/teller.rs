@@ -3,11 +3,12 @@
 use std::fmt::Display;
 
 use reference::file::Alignment;
-use reference::limits::{limits, speed, Limits};
+use reference::limits::{limits, limits_at, rule_book, speed, Limits, RuleBook};
 use reference::road;
 
 use crate::language::Language;
-use crate::rule_book::{class_name, terrain_name};
+use crate::rule_book::{book_and_day, class_name, other_contract, terrain_name};
+use crate::text::date;
 use crate::words::{why as words, Phrase};
 
 /// A road in a language.
@@ -19,7 +20,7 @@ pub struct Teller<'a> {
 
 impl Teller<'_> {
     pub fn new(road: &Alignment, language: Language) -> Teller<'_> {
-        let limits = limits(road.class, road.terrain);
+        let limits = limits(road);
         Teller {
             road,
             limits,
@@ -58,12 +59,28 @@ impl Teller<'_> {
         )
     }
 
-    /// A limit of the road's speed.
+    /// A limit of the road's speed that is the same in both rule books.
     pub fn limit_at_speed(&self, name: Phrase, value: String) -> String {
+        let day = date::of(self.road.contract);
+        let same = day.map(|day| self.say(words::SAME_IN_BOTH, &[&day]));
+        self.limit_of_road(name, value, same)
+    }
+
+    /// A limit of the road's speed that the contract date decides.
+    pub fn limit_of_book(&self, name: Phrase, value: String) -> String {
+        let book = book_and_day(self.road.contract, self.language);
+        self.limit_of_road(name, value, Some(book))
+    }
+
+    fn limit_of_road(&self, name: Phrase, value: String, book: Option<String>) -> String {
         let name = self.say(name, &[]);
         let class = self.say(class_name(self.road.class), &[]);
         let terrain = self.say(terrain_name(self.road.terrain), &[]);
-        let values: [&dyn Display; 5] = [&name, &value, &self.speed(), &class, &terrain];
+        let road = match book {
+            None => format!("{class}, {terrain}"),
+            Some(book) => format!("{class}, {terrain}; {book}"),
+        };
+        let values: [&dyn Display; 4] = [&name, &value, &self.speed(), &road];
         self.say(words::LIMIT_AT_SPEED, &values)
     }
 
@@ -79,12 +96,41 @@ impl Teller<'_> {
         self.say(words::RULE_BOOK, &[&source])
     }
 
+    /// Where a limit of the road's speed stands that the contract date decides.
+    pub fn source_of_book(&self, today: Phrase, old: Phrase) -> String {
+        match rule_book(self.road.contract) {
+            RuleBook::Today => self.source_with_speed(today),
+            RuleBook::OldHandbook => self.source_in_old_handbook(old),
+        }
+    }
+
+    /// Where a limit of the road's speed stands in the old handbook.
+    pub fn source_in_old_handbook(&self, source: Phrase) -> String {
+        let source = self.say(source, &[]);
+        let source = self.say(words::SOURCE_SPEED, &[&source]);
+        self.say(words::OLD_HANDBOOK, &[&source])
+    }
+
     pub fn source(&self, source: Phrase) -> String {
         self.say(words::RULE_BOOK, &[&self.say(source, &[])])
     }
 
     pub fn passes(&self, words: String) -> String {
         self.say(words::PASSES, &[&words])
+    }
+
+    /// The limits that the road would be held to by the other rule book.
+    pub fn other_limits(&self) -> Limits {
+        limits_at(self.speed(), other_contract(self.road.contract))
+    }
+
+    /// That by the other rule book, with a limit of its own, an element would keep the rule.
+    pub fn kept_by_other_book(&self, name: Phrase, value: String) -> String {
+        let phrase = match rule_book(self.road.contract) {
+            RuleBook::Today => words::KEPT_BY_OLD,
+            RuleBook::OldHandbook => words::KEPT_TODAY,
+        };
+        self.say(phrase, &[&self.say(name, &[]), &value])
     }
 
     /// A length or a radius that has to be so much.

@@ -1,16 +1,25 @@
 //! What `why` prints of a file.
 
+use reference::file::Contract;
+
 use super::findings::{findings, Finding};
 use super::together::{together, Together};
 use crate::agreement::{Listed, Refused};
 use crate::language::Language;
+use crate::rule_book::book_and_day;
 use crate::words::why as words;
 
 /// One line about a road that keeps every rule.
 pub fn kept(listed: &Listed, language: Language) -> String {
     let length = listed.rows.last().map_or(0, |row| row.station);
     let numbers = [length, listed.rows.len() as i128].map(|value| language.number(value));
-    language.say(words::KEEPS, &[&numbers[0], &numbers[1]]) + "\n"
+    let contract = listed.alignment.contract;
+    let book = book_and_day(contract, language);
+    let line = match contract {
+        Contract::Undated => language.say(words::KEEPS, &[&numbers[0], &numbers[1]]),
+        Contract::Dated(_) => language.say(words::KEEPS_DATED, &[&numbers[0], &numbers[1], &book]),
+    };
+    line + "\n"
 }
 
 /// Every finding, and what concerns all of them.

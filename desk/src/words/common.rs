@@ -35,5 +35,4 @@ crate::phrases! {
     SAME_NAME: "{0} and {1} would both become {2}", "{0} и {1} би постали једна датотека, {2}";
     NO_NAME: "{0} has no name for a file in the folder", "{0} нема име за датотеку у фасцикли";
     INPUT_TWICE: "standard input can be read once", "стандардни улаз може да се прочита једном";
-    NONE: "none", "нема";
 }

@@ -15,6 +15,8 @@ crate::phrases! {
     AFTER_KEYWORD: "after `{0}` come: {1}; for instance `{2}`", "иза `{0}` долази: {1}; на пример `{2}`";
     TOO_MUCH: "`{0}` is too much; {1}", "`{0}` је сувишно; {1}";
     NO_NUMBER: "`{0}` is no number", "`{0}` није број";
+    NO_DATE: "`{0}` is no date; a date is written as `2011-12-31` or `20111231`", "`{0}` није датум; датум се пише као `2011-12-31` или `20111231`";
+    READ_AS_DATED: "a file that begins with {0} is read as one with a contract date", "датотека која почиње са {0} чита се као она са датумом уговора";
     NO_WHOLE_NUMBER: "`{0}` is no whole number; metres and percent are written with their unit, as `120.5 m` and `2.5 %`, and nothing separates the thousands", "`{0}` није цео број; метри и проценти се пишу са јединицом, као `120,5 m` и `2,5 %`, а хиљаде се не одвајају";
     WITHOUT_DECIMALS: "`{0}`: {1} are a whole number, without point or comma", "`{0}`: {1} се пише као цео број, без тачке и зареза";
     AMBIGUOUS: "`{0}`: the comma may begin the decimals or separate the thousands; write the decimals behind a point", "`{0}`: зарез може да почиње децимале или да одваја хиљаде; децимале треба писати иза тачке";

@@ -6,6 +6,7 @@ pub mod folder;
 pub mod help;
 pub mod limits;
 pub mod make;
+pub mod months;
 pub mod report;
 pub mod rules;
 pub mod show;
@@ -40,6 +41,7 @@ pub const TABLES: &[&[(&str, Phrase)]] = &[
     help::ALL,
     limits::ALL,
     make::ALL,
+    months::ALL,
     report::ALL,
     rules::ALL,
     show::ALL,

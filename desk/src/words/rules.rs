@@ -12,7 +12,7 @@ crate::phrases! {
     RULE_9: "a straight between bends of the same turn is too short", "међуправац између истосмерних кривина је прекратак";
     RULE_10: "the radius of an arc is too small", "радијус кружног лука је премали";
     RULE_11: "an arc is too short", "кружни лук је прекратак";
-    RULE_12: "a clothoid is too short for its arc", "клотоида је прекратка за свој кружни лук";
+    RULE_12: "a clothoid is too short", "клотоида је прекратка";
     RULE_13: "a grade is too steep", "подужни нагиб је превелик";
     RULE_14: "a tangent is too short for the vertical curves at its ends", "тангента је прекратка за вертикалне кривине на својим крајевима";
     RULE_15: "the radius of a vertical curve is too small", "радијус вертикалне кривине је премали";
@@ -20,4 +20,5 @@ crate::phrases! {
     RULE_17: "a crossfall is outside 2.5 % to 7 %", "попречни нагиб је ван опсега од 2,5 % до 7 %";
     RULE_18: "the crossfall changes faster than the ramp limit allows", "попречни нагиб се мења брже него што дозвољава гранични нагиб рампе витоперења";
     RULE_19: "the crossfall on an arc is not allowed there", "попречни нагиб на кружном луку није дозвољен";
+    RULE_22: "the contract date is no day from 1950 to 2099", "датум уговора није исправан дан од 1950. до 2099. године";
 }

@@ -2,9 +2,10 @@
 
 crate::phrases! {
     SUMMARY: "every broken rule of a refused file, and what would mend it", "свако прекршено правило одбијене датотеке, и шта би га поправило";
-    HELP: "Prints, for each broken rule: the refusal's number and place, the rule and the item; the item's numbers, the limit, where it stands in the rule book, the nearest value that passes, and what else has to move. A line\n\n  change: element 1: clothoid 27223\n\ngives an item and its new line in the text that `voardusk show` prints. The changes of one rule mend it and break none that was kept; where several rules are broken, the changes that mend all of them come last. Of a road that keeps every rule one line is printed.\n\n  --limits   the speeds by class and terrain, and the limits by speed, as tables\n\n    voardusk why examples/refusal-12.alignment\n    voardusk why --language sr roads/*.alignment\n    voardusk why --limits",
-        "Исписује, за свако прекршено правило: број и место одбијања, правило и податак; бројеве тог податка, границу, где она стоји у правилнику, најближу вредност која пролази, и шта још мора да се помери. Ред\n\n  измена: element 1: clothoid 27223\n\nдаје податак и његов нови ред у тексту који исписује `voardusk show`. Измене једног правила поправљају њега и не крше ниједно које је било поштовано; ако је прекршено више правила, на крају стоје измене које поправљају сва. За пут који поштује сва правила исписује се један ред.\n\n  --limits   брзине по врсти пута и терену, и границе по брзинама, као табеле\n\n    voardusk why examples/refusal-12.alignment\n    voardusk why --language sr roads/*.alignment\n    voardusk why --limits";
+    HELP: "Prints, for each broken rule: the refusal's number and place, the rule and the item; the item's numbers, the limit, where it stands in the rule book, the nearest value that passes, and what else has to move. A line\n\n  change: element 1: clothoid 27223\n\ngives an item and its new line in the text that `voardusk show` prints. The changes of one rule mend it and break none that was kept; where several rules are broken, the changes that mend all of them come last. Of a road that keeps every rule one line is printed.\n\n  --limits   the speeds by class and terrain, and the limits by speed of both rule books, as tables\n\n    voardusk why examples/refusal-12.alignment\n    voardusk why --language sr roads/*.alignment\n    voardusk why --limits",
+        "Исписује, за свако прекршено правило: број и место одбијања, правило и податак; бројеве тог податка, границу, где она стоји у правилнику, најближу вредност која пролази, и шта још мора да се помери. Ред\n\n  измена: element 1: clothoid 27223\n\nдаје податак и његов нови ред у тексту који исписује `voardusk show`. Измене једног правила поправљају њега и не крше ниједно које је било поштовано; ако је прекршено више правила, на крају стоје измене које поправљају сва. За пут који поштује сва правила исписује се један ред.\n\n  --limits   брзине по врсти пута и терену, и границе по брзинама из оба правилника, као табеле\n\n    voardusk why examples/refusal-12.alignment\n    voardusk why --language sr roads/*.alignment\n    voardusk why --limits";
     KEEPS: "keeps every rule: {0} mm long, {1} rows", "поштује сва правила: дужина {0} mm, број редова {1}";
+    KEEPS_DATED: "keeps every rule ({2}): {0} mm long, {1} rows", "поштује сва правила ({2}): дужина {0} mm, број редова {1}";
     TITLE: "{0}: {1} {2}", "{0}: {1} {2}";
     HEADING: "R {0} {1}: {2}", "R {0} {1}: {2}";
     CHANGE: "change: {0}: {1}", "измена: {0}: {1}";
@@ -14,14 +15,17 @@ crate::phrases! {
 
     // where the limit stands
     RULE_BOOK: "rule book: {0}", "правилник: {0}";
+    OLD_HANDBOOK: "old handbook: {0}", "стари приручник: {0}";
     SOURCE_SPEED: "{0}; design speed: annex 2, table 3-03", "{0}; рачунска брзина: прилог 2, табела 3-03";
     SOURCE_NONE: "no such limit; it is document 01's", "нема такве границе; она је из документа 01";
     SOURCE_7: "annex 2, 6.3, makes clothoids compulsory; the order is document 01's", "прилог 2, 6.3, прописује клотоиде; редослед је из документа 01";
     SOURCE_8: "annex 2, chapter 10, „Највећа дужина правца (m)“", "прилог 2, поглавље 10, „Највећа дужина правца (m)“";
     SOURCE_9: "annex 2, chapter 10, „Најмања дужина правца (m)“", "прилог 2, поглавље 10, „Најмања дужина правца (m)“";
     SOURCE_10: "annex 2, chapter 10, „Минимални радијус min R (m)“", "прилог 2, поглавље 10, „Минимални радијус min R (m)“";
+    SOURCE_10_OLD: "second table of source document 003, „Rmin (m)“, for roads contracted before 2012-01-01", "друга табела изворног документа 003, „Rmin (m)“, за путеве уговорене пре 2012-01-01";
     SOURCE_11: "annex 2, table 6-01, „min L_k (m)“, and source document 003, „minLk“", "прилог 2, табела 6-01, „min L_k (m)“, и изворни документ 003, „minLk“";
     SOURCE_12: "annex 2, chapter 10, „Минимални параметар клотоиде min A (m)“; A² = R × L: annex 2, 6.3", "прилог 2, поглавље 10, „Минимални параметар клотоиде min A (m)“; A² = R × L: прилог 2, 6.3";
+    SOURCE_12_OLD: "second table of source document 003, „Lmin (m)“, for roads contracted before 2012-01-01", "друга табела изворног документа 003, „Lmin (m)“, за путеве уговорене пре 2012-01-01";
     SOURCE_13: "annex 2, chapter 10, „Максимални подужни нагиб max i_д (%)“, not the value in brackets", "прилог 2, поглавље 10, „Максимални подужни нагиб max i_д (%)“, а не вредност у загради";
     SOURCE_14: "annex 2, 7.2.2: curves that touch are the limiting case", "прилог 2, 7.2.2: гранични случај су кривине које се додирују";
     SOURCE_15_SAG: "annex 2, chapter 10, „Минимални радијус конкавног заобљења min R_v конк. (m)“", "прилог 2, поглавље 10, „Минимални радијус конкавног заобљења min R_v конк. (m)“";
@@ -29,10 +33,12 @@ crate::phrases! {
     SOURCE_17: "annex 2, chapter 10, „Минимални попречни нагиб min i_п (%)“ and „Максимални попречни нагиб max i_п (%)“, not the exceptional 8 %", "прилог 2, поглавље 10, „Минимални попречни нагиб min i_п (%)“ и „Максимални попречни нагиб max i_п (%)“, а не изузетних 8 %";
     SOURCE_18: "the ramp limit is the file's own; annex 2, table 8-02 and under table 6-02, allows {0} ppm at {1} km/h; lane width: annex 2, chapter 10, „Ширина возне траке t_v (m)“", "гранични нагиб рампе витоперења је из датотеке; прилог 2, табела 8-02 и испод табеле 6-02, дозвољава {0} ppm при {1} km/h; ширина возне траке: прилог 2, поглавље 10, „Ширина возне траке t_v (m)“";
     SOURCE_19: "annex 2, 8.1: one-sided fall towards the middle of the bend; R': annex 2, chapter 10, „Минимални радијус R'(i_п=-2,5%) (m)“", "прилог 2, 8.1: једнострани пад према средишту кривине; R': прилог 2, поглавље 10, „Минимални радијус R'(i_п=-2,5%) (m)“";
+    SOURCE_22: "no such limit; document 02, A.1: a day of the Gregorian calendar", "нема такве границе; документ 02, A.1: дан грегоријанског календара";
 
     // the limit
     LIMIT: "limit: {0}", "граница: {0}";
-    LIMIT_AT_SPEED: "limit: {0} {1} at {2} km/h ({3}, {4})", "граница: {0} {1} при {2} km/h ({3}, {4})";
+    LIMIT_AT_SPEED: "limit: {0} {1} at {2} km/h ({3})", "граница: {0} {1} при {2} km/h ({3})";
+    SAME_IN_BOTH: "contracted {0}, the same in both rule books", "уговор од {0}, исто у оба правилника";
     LIMIT_5: "a plan of at most {0} mm", "ситуациони план дуг највише {0} mm";
     LIMIT_6: "the tangents are together as long as the plan", "тангенте су заједно дуге колико и ситуациони план";
     LIMIT_7: "straight, then clothoid, arc, clothoid, straight, any number of times", "правац, затим клотоида, кружни лук, клотоида, правац, било колико пута";
@@ -102,6 +108,10 @@ crate::phrases! {
 
     PASSES_19_LEFT: "right {0} to {1} ppm and left its opposite, the same from its start to its end", "десно {0} до {1} ppm и лево супротно, исто од почетка до краја лука";
 
+    // what the other rule book would say
+    KEPT_TODAY: "contracted on 2012-01-01 or later, this element would keep this rule: {0} {1} in today's rule book", "да је пут уговорен 2012-01-01 или касније, овај елемент би поштовао ово правило: {0} {1} по важећем правилнику";
+    KEPT_BY_OLD: "contracted before 2012-01-01, this element would keep this rule: {0} {1} in the old handbook", "да је пут уговорен пре 2012-01-01, овај елемент би поштовао ово правило: {0} {1} по старом приручнику";
+
     // what moves
     MOVES: "then: {0}", "тада: {0}";
     MOVES_INSTEAD: "instead, since there is no room for that: {0}", "уместо тога, јер за то нема места: {0}";
@@ -141,4 +151,22 @@ crate::phrases! {
     LOOK_3: "look at: the units (mm and ppm); the sign; a count before it that is wrong, so that one number is taken for another", "провери: јединице (mm и ppm); предзнак; погрешан број података пре њега, због чега се један број чита као други";
     BYTES_FOLLOW: "byte {0}: the last number ends before it; bytes from there on: {1}", "бајт {0}: пре њега се завршава последњи број; бајтова одатле: {1}";
     LOOK_4: "look at: a count that is too small; a line end or a second file added in transfer", "провери: премали број података; знак краја реда или друга датотека додата при преносу";
+
+    // a contract date that is no day
+    NO_DATE: "a date has eight digits: four of the year, two of the month, two of the day", "датум има осам цифара: четири за годину, две за месец, две за дан";
+    BEFORE_FIRST: "the year {0} is before 1950", "година {0}. је пре 1950.";
+    AFTER_LAST: "the year {0} is after 2099", "година {0}. је после 2099.";
+    NO_MONTH: "there is no month {0}", "не постоји месец {0}";
+    NO_DAY: "there is no day 0", "не постоји дан 0";
+    NO_LEAP_YEAR: "{0} is no leap year: its February has 28 days", "{0}. није преступна година: њен фебруар има 28 дана";
+    DAYS_OF_MONTH: "{0} {1} has {2} days", "{0} {1}. има {2} дана";
+    LONG_MONTH: "{0} {1} has 31 days", "{0} {1}. има 31 дан";
+    DAY_MONTH_YEAR: "read as day, month, year it is {0}", "читан редом дан, месец, година, датум је {0}";
+    MONTH_DAY_YEAR: "read as month, day, year it is {0}", "читан редом месец, дан, година, датум је {0}";
+    YEAR_DAY_MONTH: "read as year, day, month it is {0}", "читан редом година, дан, месец, датум је {0}";
+    OR: "{0} or {1}", "{0} или {1}";
+    CONTRACT_TELLS: "the contract has to tell the day", "дан треба узети из уговора";
+    CONTRACT_DECIDES: "the contract has to tell the day, since the day decides the rule book", "дан треба узети из уговора, јер он одлучује о правилнику";
+    NOT_READ: "nothing after the date was read: the other rules are asked once it is a day", "ништа иза датума није прочитано: остала правила се испитују тек када датум буде исправан";
+    LOOK_22: "look at: the contract; the order year, month, day; a file without a contract date begins with its class, not with 9", "провери: уговор; редослед година, месец, дан; датотека без датума уговора почиње врстом пута, а не бројем 9";
 }

@@ -29,7 +29,7 @@ impl Random {
 
 type Damage = fn(&mut Vec<u8>, &[Vec<u8>], &mut Random);
 
-const DAMAGES: [Damage; 8] = [cut, add, flip, lengthen, count, join, run, size];
+const DAMAGES: [Damage; 9] = [cut, add, flip, lengthen, count, join, run, size, date];
 
 /// A file with one fault or more, no longer than one that has a text.
 pub fn damaged(seeds: &[Vec<u8>], random: &mut Random) -> Vec<u8> {
@@ -40,6 +40,25 @@ pub fn damaged(seeds: &[Vec<u8>], random: &mut Random) -> Vec<u8> {
     }
     file.truncate(MOST_BYTES);
     file
+}
+
+/// A file with a contract date: a day, a number like one, the least, or any number.
+pub fn dated(file: &[u8], random: &mut Random) -> Vec<u8> {
+    let mut between = |least: usize, most: usize| least + random.below(most + 1 - least);
+    let date = match between(0, 3) {
+        0 => between(1950, 2099) * 10_000 + between(1, 12) * 100 + between(1, 28),
+        1 => between(1949, 2100) * 10_000 + between(0, 13) * 100 + between(0, 32),
+        2 => between(0, 1),
+        _ => between(0, u32::MAX as usize),
+    };
+    let mut out = vec![9];
+    put(date as i64, &mut out);
+    out.extend_from_slice(file);
+    out
+}
+
+fn date(file: &mut Vec<u8>, _: &[Vec<u8>], random: &mut Random) {
+    *file = dated(file, random);
 }
 
 fn cut(file: &mut Vec<u8>, _: &[Vec<u8>], random: &mut Random) {

@@ -1,7 +1,8 @@
 //! A road as the bytes of a file.
 
-use reference::file::{Alignment, Kind};
+use reference::file::{Alignment, Contract, Kind};
 
+use crate::text::lines::DATED;
 use crate::text::numbers::{put, written};
 
 /// The file of a road whose numbers are in their ranges.
@@ -17,9 +18,11 @@ pub fn file(road: &Alignment) -> Vec<u8> {
 fn numbers(road: &Alignment) -> Vec<i64> {
     let plain = |value: i128| value as i64;
     let signed = |value: i128| written(value as i64);
-    let mut all = [road.class, road.terrain, road.step, road.ramp_limit]
-        .map(plain)
-        .to_vec();
+    let mut all = match road.contract {
+        Contract::Undated => Vec::new(),
+        Contract::Dated(date) => vec![DATED, plain(date)],
+    };
+    all.extend([road.class, road.terrain, road.step, road.ramp_limit].map(plain));
     all.push(road.elements.len() as i64);
     for element in &road.elements {
         match element.kind {
@@ -52,5 +55,15 @@ mod tests {
         let mountain = include_bytes!("../../../../examples/mountain-access-road.alignment");
         let road = reference::file::read(mountain).expect("a file that can be read");
         assert_eq!(file(&road), mountain);
+    }
+
+    #[test]
+    fn a_dated_file_is_written_again() {
+        let crest = include_bytes!("../../../../examples/crest.alignment");
+        let mut dated = vec![9];
+        put(20_090_514, &mut dated);
+        dated.extend(crest);
+        let road = reference::file::read(&dated).expect("a file that can be read");
+        assert_eq!(file(&road), dated);
     }
 }

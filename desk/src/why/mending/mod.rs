@@ -12,7 +12,7 @@ mod tangents;
 #[cfg(test)]
 mod tests;
 
-use reference::file::{Alignment, Refusal};
+use reference::file::{Alignment, Kind, Refusal};
 use reference::limits::{limits, Limits};
 use reference::rules::{judge_all, Judgement};
 
@@ -31,6 +31,13 @@ impl Case<'_> {
 
     fn is_asked(&self, number: i128) -> bool {
         !self.judgement.not_asked.contains(&number)
+    }
+
+    /// Whether a rule was asked of the item; 12 is asked of clothoids alone.
+    fn is_asked_of(&self, refusal: Refusal) -> bool {
+        let element = self.road.elements.get(refusal.place as usize);
+        let is_clothoid = element.is_some_and(|element| element.kind == Kind::Clothoid);
+        self.is_asked(refusal.number) && (refusal.number != 12 || is_clothoid)
     }
 }
 
@@ -61,7 +68,7 @@ pub enum Obstacle {
 
 /// The first candidate after which the rule is not broken at this item, and none where it was not before.
 pub fn mended(road: &Alignment, judgement: &Judgement, broken: Refusal) -> Mending {
-    let limits = limits(road.class, road.terrain);
+    let limits = limits(road);
     let case = Case {
         road,
         judgement,
@@ -103,8 +110,7 @@ fn verdict(case: &Case, broken: Refusal, candidate: &Alignment) -> Verdict {
     }
     let before = &case.judgement.broken;
     let new = after.iter().filter(|&&refusal| !is_among(before, refusal));
-    let (asked, not_asked): (Vec<_>, Vec<_>) =
-        new.partition(|refusal| case.is_asked(refusal.number));
+    let (asked, not_asked): (Vec<_>, Vec<_>) = new.partition(|&&refusal| case.is_asked_of(refusal));
     match (asked.first(), not_asked.first()) {
         (Some(&&refusal), _) => Verdict::Not(Obstacle::Breaks(refusal)),
         _ if !is_agreed(candidate, after.first()) => Verdict::Not(Obstacle::Disputed),

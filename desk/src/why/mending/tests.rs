@@ -1,6 +1,6 @@
 //! Mendings of the sample files and of roads made for a case.
 
-use reference::file::{read, Alignment, Kind, Refusal};
+use reference::file::{read, Alignment, Contract, Kind, Refusal};
 use reference::rules::{judge, judge_all};
 
 use super::{all_mended, mended, Mending, Obstacle};
@@ -14,6 +14,9 @@ fn mountain_road() -> Alignment {
         "../../../../examples/mountain-access-road.alignment"
     ))
 }
+
+/// A contract under the old handbook.
+const OLD: Contract = Contract::Dated(20_090_514);
 
 fn mending(road: &Alignment, number: i128, place: i128) -> Mending {
     let judgement = judge_all(road);
@@ -29,79 +32,133 @@ fn found(road: &Alignment, number: i128, place: i128) -> Alignment {
     }
 }
 
+/// Each with the refusal that turns it away.
+const SAMPLES: [(&[u8], i128, i128); 13] = [
+    (
+        include_bytes!("../../../../examples/refusal-06.alignment"),
+        6,
+        0,
+    ),
+    (
+        include_bytes!("../../../../examples/refusal-08.alignment"),
+        8,
+        0,
+    ),
+    (
+        include_bytes!("../../../../examples/refusal-09.alignment"),
+        9,
+        4,
+    ),
+    (
+        include_bytes!("../../../../examples/refusal-10.alignment"),
+        10,
+        2,
+    ),
+    (
+        include_bytes!("../../../../examples/refusal-11.alignment"),
+        11,
+        2,
+    ),
+    (
+        include_bytes!("../../../../examples/refusal-12.alignment"),
+        12,
+        1,
+    ),
+    (
+        include_bytes!("../../../../examples/refusal-13.alignment"),
+        13,
+        0,
+    ),
+    (
+        include_bytes!("../../../../examples/refusal-14.alignment"),
+        14,
+        1,
+    ),
+    (
+        include_bytes!("../../../../examples/refusal-15.alignment"),
+        15,
+        0,
+    ),
+    (
+        include_bytes!("../../../../examples/refusal-16.alignment"),
+        16,
+        5,
+    ),
+    (
+        include_bytes!("../../../../examples/refusal-17.alignment"),
+        17,
+        5,
+    ),
+    (
+        include_bytes!("../../../../examples/refusal-18.alignment"),
+        18,
+        0,
+    ),
+    (
+        include_bytes!("../../../../examples/refusal-19.alignment"),
+        19,
+        2,
+    ),
+];
+
 #[test]
 fn sample_files() {
-    let files: [(&[u8], i128, i128); 13] = [
-        (
-            include_bytes!("../../../../examples/refusal-06.alignment"),
-            6,
-            0,
-        ),
-        (
-            include_bytes!("../../../../examples/refusal-08.alignment"),
-            8,
-            0,
-        ),
-        (
-            include_bytes!("../../../../examples/refusal-09.alignment"),
-            9,
-            4,
-        ),
-        (
-            include_bytes!("../../../../examples/refusal-10.alignment"),
-            10,
-            2,
-        ),
-        (
-            include_bytes!("../../../../examples/refusal-11.alignment"),
-            11,
-            2,
-        ),
-        (
-            include_bytes!("../../../../examples/refusal-12.alignment"),
-            12,
-            1,
-        ),
-        (
-            include_bytes!("../../../../examples/refusal-13.alignment"),
-            13,
-            0,
-        ),
-        (
-            include_bytes!("../../../../examples/refusal-14.alignment"),
-            14,
-            1,
-        ),
-        (
-            include_bytes!("../../../../examples/refusal-15.alignment"),
-            15,
-            0,
-        ),
-        (
-            include_bytes!("../../../../examples/refusal-16.alignment"),
-            16,
-            5,
-        ),
-        (
-            include_bytes!("../../../../examples/refusal-17.alignment"),
-            17,
-            5,
-        ),
-        (
-            include_bytes!("../../../../examples/refusal-18.alignment"),
-            18,
-            0,
-        ),
-        (
-            include_bytes!("../../../../examples/refusal-19.alignment"),
-            19,
-            2,
-        ),
-    ];
-    for (file, number, place) in files {
+    for (file, number, place) in SAMPLES {
         let mended = found(&road(file), number, place);
         assert!(judge(&mended).is_ok(), "{number}");
     }
+}
+
+/// Under the old handbook some of them break rule 12 too.
+#[test]
+fn sample_files_under_the_old_handbook() {
+    for (file, number, place) in SAMPLES {
+        let mut road = road(file);
+        road.contract = OLD;
+        let judgement = judge_all(&road);
+        assert!(judgement.broken.contains(&Refusal { number, place }));
+        let (mended, after) = all_mended(&road, &judgement);
+        assert!(after.broken.is_empty(), "{number}: {:?}", after.broken);
+        assert!(judge(&mended).is_ok() && mended.contract == OLD);
+    }
+}
+
+/// A radius and a clothoid that today's rule book allows are mended together.
+#[test]
+fn both_limits_of_the_old_handbook_at_once() {
+    let mut road = mountain_road();
+    (road.class, road.terrain, road.contract) = (2, 3, Contract::Undated); // 70 km/h
+    road.elements.truncate(5);
+    for (element, length) in road
+        .elements
+        .iter_mut()
+        .zip([200_000, 59_999, 60_000, 59_999, 200_002])
+    {
+        element.length = length;
+    }
+    road.elements[2].radius = 175_000;
+    road.tangents.truncate(1);
+    (road.tangents[0].length, road.tangents[0].half_length) = (580_000, 0);
+    road.points.truncate(2);
+    for (point, station) in road.points.iter_mut().zip([0, 580_000]) {
+        (point.station, point.left, point.right) = (station, 40_000, -40_000);
+    }
+    assert!(judge(&road).is_ok(), "{:?}", judge_all(&road));
+    road.contract = OLD;
+    let judgement = judge_all(&road);
+    let broken: Vec<(i128, i128)> = judgement
+        .broken
+        .iter()
+        .map(|r| (r.number, r.place))
+        .collect();
+    assert_eq!(broken, [(10, 2), (12, 1), (12, 3)]);
+    let (mended, after) = all_mended(&road, &judgement);
+    assert!(after.broken.is_empty());
+    assert_eq!(mended.elements[2].radius, 180_000);
+    assert_eq!(
+        [1, 3].map(|place| mended.elements[place].length),
+        [60_000; 2]
+    );
 }
 
 #[test]
