@@ -1,22 +1,19 @@
 -- A number from 19500101 to 20991231 is a day exactly where a Gregorian day is written by it; the years 1950 to 2099 have 54,787 days. Assumes nothing.
-use mathlib.Core.Path.{_≡_, refl, sym, ap, _∙_, subst}
+use mathlib.Core.Path.{_≡_, refl, ap, _∙_, subst}
 use mathlib.Core.Logic.{_↔_}
 use mathlib.Core.Bool.{Bool, true, false, _&&_}
 use mathlib.Core.List.{List, [], _∷_}
 use Prim.Native.Nat.{ℕ, zero, suc, _+_, _*_, _/_, _%_, _≤_, _<_}
 use native.Mathlib.Omega.{arith}
-use lib.Dec.{T, leb, leb→le}
+use lib.Dec.{leb, leb→le}
 use native.Mathlib.Decide.{decLt}
 use lib.ListN.{getD, List·getD-eq-default}
-use borrow.Author.Tests.{le-leb}
+use borrow.Author.Tests.{leb-true, le-leb}
 use Rattle.laws_of_lists.specs.Each.{each}
 use Rattle.laws_of_lists.specs.Tests.{and-left, and-right}
 use Rattle.days.specs.Day.{Day, numberOf, leapYear, monthsOf, monthDays, gregorian, dayOf, isDay}
 
 -- ---- month and day have two digits
-
-leb-yes : (a b : ℕ) → leb a b ≡ true → a ≤ b
-leb-yes a b e = leb→le a b (subst T (sym e) tt)
 
 -- there are twelve months, of at most 31 days
 month-short : (leap : Bool) (month : ℕ) → getD (monthsOf leap) month 0 ≤ 31
@@ -41,8 +38,8 @@ digits : (d : Day) → gregorian d ≡ true → Digits d
 unfolding gregorian monthDays
 digits d e =
     let n : ℕ = getD (monthsOf (leapYear (d .year))) (d .month) 0 in
-    let low = leb-yes 1 (d .day) (and-left (leb 1 (d .day)) (leb (d .day) n) e) in
-    let high = leb-yes (d .day) n (and-right (leb 1 (d .day)) (leb (d .day) n) e) in
+    let low = leb-true 1 (d .day) (and-left (leb 1 (d .day)) (leb (d .day) n) e) in
+    let high = leb-true (d .day) n (and-right (leb 1 (d .day)) (leb (d .day) n) e) in
     record { month = month-few (leapYear (d .year)) (d .month) (omega arith); day = omega (arith, month-short (leapYear (d .year)) (d .month)) }
 
 -- the digits of the number are the day
@@ -77,8 +74,8 @@ is-day-iff n = (there, back)
           record {
             calendar = and-left (gregorian (dayOf n)) (leb 19_500_101 n && leb n 20_991_231) e;
             number = number-back n;
-            low = leb-yes 19_500_101 n (and-left (leb 19_500_101 n) (leb n 20_991_231) r);
-            high = leb-yes n 20_991_231 (and-right (leb 19_500_101 n) (leb n 20_991_231) r);
+            low = leb-true 19_500_101 n (and-left (leb 19_500_101 n) (leb n 20_991_231) r);
+            high = leb-true n 20_991_231 (and-right (leb 19_500_101 n) (leb n 20_991_231) r);
           },
         )
 

@@ -4,8 +4,8 @@ use mathlib.Core.Bool.{Bool, true, false, _&&_}
 use mathlib.Core.List.{List}
 use Prim.Native.Nat.{ℕ}
 use native.Mathlib.Omega.{arith}
-use borrow.Author.Tests.{ne-eqb}
-use lib.Dec.{T, leb, eqb, leb→le}
+use borrow.Author.Tests.{leb-true, ne-eqb}
+use lib.Dec.{leb, eqb}
 use Rattle.file_numbers.specs.Reading.{Got, got, refused, andThen}
 use Rattle.file_numbers.specs.Refused.{refused-not-got}
 use Rattle.file_numbers.specs.Number.{number}
@@ -21,8 +21,8 @@ use Rattle.item_fields.specs.Items.{asContract}
 -- ---- the range from 9 to 9
 nine : (v : ℕ) → (leb 9 v && leb v 9) ≡ true → v ≡ 9
 nine v e =
-    let low = leb→le 9 v (subst T (sym (and-left (leb 9 v) (leb v 9) e)) tt) in
-    let high = leb→le v 9 (subst T (sym (and-right (leb 9 v) (leb v 9) e)) tt) in
+    let low = leb-true 9 v (and-left (leb 9 v) (leb v 9) e) in
+    let high = leb-true v 9 (and-right (leb 9 v) (leb v 9) e) in
     omega arith
 
 not-nine : (v : ℕ) → (leb 9 v && leb v 9) ≡ false → eqb v 9 ≡ false
