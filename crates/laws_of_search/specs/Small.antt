@@ -4,11 +4,10 @@ use mathlib.Core.List.{[], _∷_}
 use Prim.Native.Nat.{ℕ, zero, suc, _+_, _*_, _≤_, _<_}
 use native.Mathlib.Omega.{arith}
 use native.Mathlib.Decide.{decLt}
-use native.Mathlib.Nat.{div-zero, le-of-mul-le-mul-right}
-use lib.IntN.{ℤ, pos, negsuc, _+ℤ_, _-ℤ_, _*ℤ_, natAbs}
-use Rattle.integers.specs.Bridge.{int, nat, _⊖_, abs!, abs?, abs-mul, abs-sum, abs-difference, abs-product}
+use lib.IntN.{ℤ, pos, _+ℤ_, _-ℤ_, _*ℤ_, natAbs}
+use Rattle.integers.specs.Bridge.{nat, _⊖_, abs!, abs-sum, abs-difference, abs-product}
 use Rattle.integers.specs.Ring.{_:+_, _:-_, ring, $}
-use Rattle.integers.specs.Rounding.{floor, round, rounded, round-near}
+use Rattle.integers.specs.Rounding.{round, rounded, round-size, round-over-zero}
 use Rattle.integers.specs.Fraction.{Frac, _+ᶠ_, _-ᶠ_, _×ᶠ_}
 use Rattle.road.specs.Exact.{from_to_}
 
@@ -48,27 +47,12 @@ small-product f g A B h k q =
     omega (arith, abs-product (f .num) (g .num) (h (p .0)) (k (p .1)))
 
 -- ---- rounded
-floor-zero : (n : ℤ) → natAbs (floor n 0) ≤ 1
-unfolding floor
-floor-zero (pos a) = omega (arith, div-zero a)
-floor-zero (negsuc a) = omega (arith, div-zero a)
-
-round-small : (n r : ℤ) (d B : ℕ) → 0 < d → natAbs (pos (2 * d) *ℤ r -ℤ pos 2 *ℤ n) ≤ d → natAbs n ≤ B * d → natAbs r ≤ B + 1
-round-small n r d B p h l =
-    le-of-mul-le-mul-right {k = d} (omega (arith, abs-mul (pos (2 * d)) r, abs-mul (pos 2) n, split (pos (2 * d) *ℤ r) (pos 2 *ℤ n))) p
-  where
-    split : (a b : ℤ) → natAbs a ≤ natAbs (a -ℤ b) + natAbs b
-    split a b =
-        let x = abs? (int a ⊖ int b) (natAbs (a -ℤ b)) (omega arith) in
-        let y = abs? (int b) (natAbs b) (omega arith) in
-        abs! (int a) (natAbs (a -ℤ b) + natAbs b) (omega arith) (omega arith)
-
-pub rounded-small : (f : Frac) (B : ℕ) → Small f B → natAbs (rounded f) ≤ B + 1
-unfolding Small rounded round
+pub rounded-small : (f : Frac) (B : ℕ) → Small f B → natAbs (rounded f) ≤ B
+unfolding Small rounded
 rounded-small f B h = go (decLt 0 (f .den))
   where
-    go : Dec (0 < f .den) → natAbs (rounded f) ≤ B + 1
-    go (yes p) = (round-small (f .num) (round (f .num) (f .den)) (f .den) B p (round-near (f .num) (f .den) p) (h p))
+    go : Dec (0 < f .den) → natAbs (rounded f) ≤ B
+    go (yes p) = round-size (f .num) (f .den) B p (h p)
     go (no p) =
         let e : f .den ≡ 0 = omega arith in
-        subst (λ (d : ℕ). natAbs (floor (pos 2 *ℤ f .num +ℤ pos d) (2 * d)) ≤ B + 1) (sym e) (omega (arith, floor-zero (pos 2 *ℤ f .num +ℤ pos 0)))
+        subst (λ (d : ℕ). natAbs (round (f .num) d) ≤ B) (sym e) (rw (round-over-zero (f .num)) (omega arith))

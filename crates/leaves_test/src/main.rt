@@ -50,7 +50,7 @@ fn signed_values() {
     show(file_numbers::byte_count(4294967295) as i64);
 }
 
-// "Truncating negative drops towards zero: −68.75 becomes −68"; exact halves go up.
+// "Truncating negative drops towards zero: −68.75 becomes −68"; exact halves go away from zero.
 fn roundings() {
     show(integers::round_div(-6875, 100));
     show(integers::round_div(-715, 10));

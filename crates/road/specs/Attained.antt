@@ -1,5 +1,5 @@
 -- Document 01, "The blade over a whole run": neighbouring rows between which the blade is off by exactly what demand 3 allows, on a tangent and in a vertical curve.
--- At 25, 22,025 and 22,075 the exact height and, at lane 2,750 and crossfalls of 26,000, both drops end in a half: "an exact half goes to the greater number", so each edge is printed 1 mm above the exact one.
+-- At 25, 22,025 and 22,075 the exact height and, at lane 2,750 and crossfalls of −26,000 and −30,000, both drops are below zero and end in a half, which goes away from zero: each edge is printed 1 mm below the exact one.
 use Prim.Native.Nat.{ℕ, _≤_, _<_}
 use mathlib.Core.Path.{_≡_, refl, sym, subst}
 use mathlib.Core.Bool.{Bool, true, false, _&&_, _||_}
@@ -26,18 +26,18 @@ use Rattle.road.specs.Sample as Sample
 use Rattle.road.specs.declared.Contract.the-variants.{Undated}
 use Rattle.road.specs.Compute.{computed}
 
--- ---- the road: a sag of h 11,000 from 25 to 22,025, and 50 mm of tangent behind it
+-- ---- the road: a crest of h 11,000 from 25 to 22,025, and 50 mm of tangent behind it
 
 abbrev pub numbers : List ℕ
 numbers =
     4 ∷ 3 ∷ 50_000 ∷ 5000
     ∷ 1 ∷ 0 ∷ 22_075
-    ∷ 0 ∷ 2
-    ∷ 11_025 ∷ written (negsuc 19_999) ∷ 11_000
-    ∷ 11_050 ∷ written (pos 20_000)
+    ∷ written (negsuc 9) ∷ 2
+    ∷ 11_025 ∷ written (pos 20_000) ∷ 11_000
+    ∷ 11_050 ∷ written (negsuc 19_999)
     ∷ 2
-    ∷ 0 ∷ written (negsuc 25_999) ∷ written (pos 26_000)
-    ∷ 22_075 ∷ written (negsuc 25_999) ∷ written (pos 26_000)
+    ∷ 0 ∷ written (negsuc 25_999) ∷ written (negsuc 29_999)
+    ∷ 22_075 ∷ written (negsuc 25_999) ∷ written (negsuc 29_999)
     ∷ []
 
 abbrev pub file : List ℕ
@@ -47,9 +47,9 @@ abbrev pub road : Road
 road = record {
   head = record { contract = Undated; class = 4; terrain = 3; step = 50_000; ramp = 5000 };
   plan = record { kind = 0; length = 22_075; radius = pos 0 } ∷ [];
-  start = pos 0;
-  tangents = record { length = 11_025; grade = negsuc 19_999; half = 11_000 } ∷ record { length = 11_050; grade = pos 20_000; half = 0 } ∷ [];
-  crossfalls = record { station = 0; left = negsuc 25_999; right = pos 26_000 } ∷ record { station = 22_075; left = negsuc 25_999; right = pos 26_000 } ∷ [];
+  start = negsuc 9;
+  tangents = record { length = 11_025; grade = pos 20_000; half = 11_000 } ∷ record { length = 11_050; grade = negsuc 19_999; half = 0 } ∷ [];
+  crossfalls = record { station = 0; left = negsuc 25_999; right = negsuc 29_999 } ∷ record { station = 22_075; left = negsuc 25_999; right = negsuc 29_999 } ∷ [];
 }
 
 pub file-road : accepted file ≡ got road 43
@@ -59,16 +59,16 @@ file-road = refl
 -- ---- its list, byte for byte
 
 abbrev pub first : Row
-first = record { station = 0; bytes = printedLine "0 0 -20000 -26000 26000 -71 72 0" }
+first = record { station = 0; bytes = printedLine "0 -10 20000 -26000 -30000 -82 -93 0" }
 
 abbrev pub second : Row
-second = record { station = 25; bytes = printedLine "25 0 -20000 -26000 26000 -71 72 0" }
+second = record { station = 25; bytes = printedLine "25 -10 20000 -26000 -30000 -82 -93 0" }
 
 abbrev pub third : Row
-third = record { station = 22_025; bytes = printedLine "22025 0 20000 -26000 26000 -71 72 0" }
+third = record { station = 22_025; bytes = printedLine "22025 -10 -20000 -26000 -30000 -82 -93 0" }
 
 abbrev pub last : Row
-last = record { station = 22_075; bytes = printedLine "22075 1 20000 -26000 26000 -70 73 0" }
+last = record { station = 22_075; bytes = printedLine "22075 -11 -20000 -26000 -30000 -83 -94 0" }
 
 pub rows : listingRows file (replicate 96 0) ≡ first ∷ second ∷ third ∷ last ∷ []
 unfolding computed

@@ -6,7 +6,7 @@ use Rattle.days.specs.Day.{leapYear, monthDays, gregorian, isDay}
 use Rattle.road.specs.File.{fitting, date, numberIs, datedFields, contractFields, field, signed, element, tangent, point, headFields, planFields, profileFields, crossfallFields, fields, ended, read}
 use Rattle.road.specs.Limits.{speed, cell, radiusMinAt, clothoidAt, limitsAt, limitsOf, limits}
 use Rattle.road.specs.Lane.{laneWidth}
-use Rattle.integers.specs.Rounding.{floor, round, rounded}
+use Rattle.integers.specs.Rounding.{round, rounded}
 use Rattle.road.specs.Exact.{elementStart, tangentStart, total, elementAt, tangentAt, pointAt, rise, startHeight, tangentHeight, inCurve, curveAt, curveHeight, height, grade, crossfallBy, crossfall, edgeDrop, edge, endCurvature, clothoidCurvature, curvatureOn, curvature}
 use Rattle.road.specs.Listed.{multiples, elementEnds, curveStations, stations, insert, ascending, listed, leastFrom, nextListed}
 use Rattle.road.specs.Rules.{firstArc, ownArc, otherTotal, wrongKind, shortStraight, tooShort, shortClothoid, sharpVertex, misplaced, wrongSide, wrongCrossfall, steepRamp, changesBetween, allowed, changesOn, wrongSuperelevation, firstBroken, judge, judged, accepted}
@@ -24,7 +24,7 @@ unfolding
     leapYear monthDays gregorian isDay
     fitting date numberIs datedFields contractFields field signedOf signed element tangent point headFields planFields profileFields crossfallFields fields ended read
     speed cell radiusMinAt clothoidAt limitsAt limitsOf limits laneWidth
-    floor round rounded
+    round rounded
     elementStart tangentStart total elementAt tangentAt pointAt rise startHeight tangentHeight inCurve curveAt curveHeight height grade crossfallBy crossfall edgeDrop edge endCurvature clothoidCurvature curvatureOn curvature
     multiples elementEnds curveStations stations insert ascending listed leastFrom nextListed
     firstArc ownArc otherTotal wrongKind shortStraight tooShort shortClothoid sharpVertex misplaced wrongSide wrongCrossfall steepRamp changesBetween allowed changesOn wrongSuperelevation firstBroken judge judged accepted

@@ -119,8 +119,8 @@ starred =
     -- "Crossfall −25,000 to 25,000, ramp limit 5,000: 27,500 passes, 27,499 gives 18."
     ∷ item theFile (straightRoad at40 5000 27_500 (pos 0) (negsuc 24_999) (negsuc 24_999) (pos 25_000) (pos 25_000)) passes
     ∷ item theFile (straightRoad at40 5000 27_499 (pos 0) (negsuc 24_999) (negsuc 24_999) (pos 25_000) (pos 25_000)) (turnedAway 18 0)
-    -- "Lane 2,750: crossfall −26,000 drops −71, 26,000 gives 72."
-    ∷ item (theDrop left 0) (straightRoad at40 5000 1 (pos 0) (negsuc 25_999) (pos 26_000) (negsuc 25_999) (pos 26_000)) (printed (negsuc 70))
+    -- "Lane 2,750", by request A.2: "crossfall −26,000 .. becomes −72, and 26,000 remains 72."
+    ∷ item (theDrop left 0) (straightRoad at40 5000 1 (pos 0) (negsuc 25_999) (pos 26_000) (negsuc 25_999) (pos 26_000)) (printed (negsuc 71))
     ∷ item (theDrop right 0) (straightRoad at40 5000 1 (pos 0) (negsuc 25_999) (pos 26_000) (negsuc 25_999) (pos 26_000)) (printed (pos 72))
     -- "Radius 50,000, clothoid 30,000: curvature 10,000 halfway, right turn."
     ∷ item (theCurvature 15_001) (bendRoad at40 50_000 30_000 22_000) (printed (pos 10_000))
