@@ -1,3 +1,4 @@
 pub mod Fits
 pub mod Buffer
 pub mod AnyContract
+pub mod Opposite
