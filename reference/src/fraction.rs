@@ -52,10 +52,11 @@ impl Fraction {
         self.numerator * other.denominator == other.numerator * self.denominator
     }
 
-    /// "rounded to the nearest whole; an exact half goes to the greater number"
+    /// "rounded to the nearest whole", and by request A.2 "an exact half away from zero"
     pub fn rounded(self) -> i128 {
-        // The floor of value + 1/2; the denominator is positive.
-        (2 * self.numerator + self.denominator).div_euclid(2 * self.denominator)
+        // The floor of the unsigned value + 1/2, with the sign put back; the denominator is positive.
+        let unsigned = (2 * self.numerator.abs() + self.denominator) / (2 * self.denominator);
+        self.numerator.signum() * unsigned
     }
 }
 

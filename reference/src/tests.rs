@@ -1,4 +1,4 @@
-//! The starred items and the sample list of document 01, and request A.1.
+//! The starred items and the sample list of document 01, and requests A.1 and A.2.
 
 mod contract_date;
 mod two_rule_books;
@@ -6,7 +6,7 @@ mod two_rule_books;
 use crate::file::{read, Refusal};
 use crate::fraction::Fraction;
 use crate::machine::{accept, list, next_station, printed_list, row, Answer, PartAnswer};
-use crate::{road, stations};
+use crate::{blade, road, stations};
 
 /// A number in shortest form.
 fn number(value: u64) -> Vec<u8> {
@@ -135,12 +135,57 @@ fn steepest_ramp() {
 }
 
 #[test]
-fn halves_go_to_the_greater_number() {
-    for (crossfall, rounded) in [(-26_000, -71), (26_000, 72)] {
+fn halves_go_away_from_zero() {
+    // Drops of -71.5, 71.5, -68.75 and 68.75.
+    for (crossfall, rounded) in [(-26_000, -72), (26_000, 72), (-25_000, -69), (25_000, 69)] {
         let alignment = accept(&straight(1_000, crossfall, crossfall)).unwrap();
         assert_eq!(road::drop(&alignment, 500, |p| p.left).rounded(), rounded);
     }
     assert_eq!(Fraction::new(-275, 4).rounded(), -69);
+}
+
+/// From -7/4 to 7/4.
+#[test]
+fn quarters_around_zero() {
+    let rounded = [-2, -2, -1, -1, -1, -1, 0, 0, 0, 1, 1, 1, 1, 2, 2];
+    for (quarters, rounded) in (-7..=7).zip(rounded) {
+        assert_eq!(Fraction::new(quarters, 4).rounded(), rounded, "{quarters}");
+        assert_eq!(Fraction::new(-quarters, -4).rounded(), rounded);
+    }
+}
+
+/// "All rounded numbers change their definition": a grade of 0.5, a crossfall of 26,000.5 and a curvature of 312.5.
+#[test]
+fn halves_of_grade_crossfall_and_curvature() {
+    for (sign, rounded) in [(-1, [-1, -26_001, -313]), (1, [1, 26_001, 313])] {
+        let curve = accept(&two_tangents(0, 20_000, sign)).unwrap();
+        let ramp = accept(&straight(1_000, sign * 26_000, sign * 26_001)).unwrap();
+        let bend = read(&one_bend(sign * 3_200_000, 30_000)).unwrap();
+        let halves = [
+            road::grade(&curve, 100_000),
+            road::crossfall(&ramp, 500, |p| p.left),
+            road::curvature(&bend, 100_000),
+        ];
+        assert_eq!(halves.map(Fraction::rounded), rounded);
+    }
+}
+
+/// A height of 0.5 and drops of 71.5: the printed edge is 1 + 72, 1 mm from the exact 72. "The blade still has to
+/// stay as close to the design as before."
+#[test]
+fn edge_of_two_halves() {
+    for (sign, line) in [
+        (-1, "500 -1 -1000 -26000 -26000 -73 -73 0\n"),
+        (1, "500 1 1000 26000 26000 73 73 0\n"),
+    ] {
+        let mut alignment = accept(&straight(1_000, sign * 26_000, sign * 26_000)).unwrap();
+        let sign = i128::from(sign);
+        alignment.tangents[0].grade = sign * 1_000;
+        assert_eq!(road::line(&alignment, 500), line);
+        let (from, to) = ((500, sign * 73), (1_000, sign * 73));
+        let mut between = 500..=1_000;
+        assert!(between.all(|x| blade::within(&alignment, from, to, x, |p| p.left)));
+    }
 }
 
 #[test]

@@ -9,7 +9,7 @@ use crate::summary::Summary;
 use reference::blade::{neighbouring, Row};
 use reference::file::{Alignment, Refusal};
 use reference::machine::{self, Answer, PartAnswer};
-use reference::stations;
+use reference::{road, stations};
 
 fn refusal(refusal: voardusk::Refusal) -> Refusal {
     Refusal {
@@ -123,6 +123,19 @@ fn random_buffer(random: &mut Random) -> Vec<u8> {
     random.bytes(length)
 }
 
+/// Halfway between two crossfall points, along an element or in a vertical curve, where what
+/// changes evenly is often an exact half.
+fn halfway(random: &mut Random, road: &Alignment) -> i128 {
+    let points = || road.points.iter().map(|point| point.station).collect();
+    let ends: Vec<i128> = match random.place(3) {
+        0 => points(),
+        1 => road::element_starts(road),
+        _ => return random.pick(&road::tangent_starts(road)),
+    };
+    let place = random.place(ends.len() - 1);
+    (ends[place] + ends[place + 1]) / 2
+}
+
 fn random_station(random: &mut Random, road: Option<&Alignment>) -> u64 {
     let end = road.map_or(100_000, Alignment::total_length);
     let listed = |random: &mut Random| match road {
@@ -133,7 +146,8 @@ fn random_station(random: &mut Random, road: Option<&Alignment>) -> u64 {
         0..=3 => listed(random),
         4..=5 => listed(random) + 1,
         6..=7 => (listed(random) - 1).max(0),
-        8..=13 => random.between(0, end),
+        8..=11 => random.between(0, end),
+        12..=13 => road.map_or(end, |road| halfway(random, road)),
         14 => 0,
         15 => end,
         16 => end + 1,
@@ -183,6 +197,9 @@ fn compare_run(
                     return Err(format!("the row of {station} names {}", row.station));
                 }
                 rows.push(row);
+                if let Some(road) = road {
+                    summary.halves.count(road, row.station);
+                }
             }
         }
     }

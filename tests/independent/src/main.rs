@@ -5,6 +5,7 @@
 mod blade;
 mod compare;
 mod generate;
+mod halves;
 mod hexadecimal;
 mod summary;
 mod vectors;
@@ -36,7 +37,7 @@ impl Options {
     fn read(mut arguments: impl Iterator<Item = String>) -> Result<Options, String> {
         let mut options = Options {
             files: 10_000,
-            seed: 1,
+            seed: 5,
             only: None,
             index: None,
             keep: None,

@@ -5,6 +5,7 @@ use std::fmt;
 use crate::generate::edges::EDGES;
 use crate::generate::features::{features, FEATURES};
 use crate::generate::{MadeFile, FILE_KINDS};
+use crate::halves::Halves;
 use reference::file::{Alignment, Refusal};
 
 pub struct Summary {
@@ -20,6 +21,7 @@ pub struct Summary {
     pub refused_calls: [u64; 23],
     /// Files inside and outside of each limit.
     pub edges: [[u64; 2]; EDGES.len()],
+    pub halves: Halves,
     pub row_calls: u64,
     pub next_calls: u64,
     pub list_calls: u64,
@@ -41,6 +43,7 @@ impl Summary {
             refused_files: [0; 23],
             refused_calls: [0; 23],
             edges: [[0; 2]; EDGES.len()],
+            halves: Halves::default(),
             row_calls: 0,
             next_calls: 0,
             list_calls: 0,
@@ -102,6 +105,7 @@ impl fmt::Display for Summary {
         for ((name, _), count) in FEATURES.iter().zip(self.features) {
             writeln!(to, "  {name:<30} {count:>6}")?;
         }
+        write!(to, "{}", self.halves)?;
         writeln!(to, "calls of row: {}", self.row_calls)?;
         writeln!(to, "calls of next station: {}", self.next_calls)?;
         writeln!(to, "calls of list: {}", self.list_calls)?;

@@ -2,16 +2,23 @@
 
 pub struct Random {
     state: u64,
+    /// Of a wide range only multiples of it are drawn: round numbers, as designers take them, make
+    /// exact halves.
+    grid: i128,
 }
 
 impl Random {
     /// Each file has numbers of its own, so that it can be made again alone.
     pub fn for_file(seed: u64, index: u64) -> Random {
-        let mut outer = Random { state: seed };
+        let mut outer = Random::on_grid(seed, 1);
         let mixed = outer.next() ^ index.wrapping_mul(0xd134_2543_de82_ef95);
-        let mut inner = Random { state: mixed };
-        inner.next();
-        inner
+        let mut inner = Random::on_grid(mixed, 1);
+        let grid = inner.pick(&[1, 1, 1, 1, 25, 500]);
+        Random::on_grid(inner.next(), grid)
+    }
+
+    fn on_grid(state: u64, grid: i128) -> Random {
+        Random { state, grid }
     }
 
     pub fn next(&mut self) -> u64 {
@@ -25,7 +32,14 @@ impl Random {
     /// A whole number from low to high, both included.
     pub fn between(&mut self, low: i128, high: i128) -> i128 {
         assert!(low <= high, "no number from {low} to {high}");
-        low + i128::from(self.next()) % (high - low + 1)
+        let drawn = low + i128::from(self.next()) % (high - low + 1);
+        let round = drawn.div_euclid(self.grid) * self.grid;
+        let wide = high - low >= 10 * self.grid;
+        if wide && round >= low {
+            round
+        } else {
+            drawn
+        }
     }
 
     /// A place in a list of so many items.
