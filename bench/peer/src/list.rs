@@ -2,7 +2,8 @@
 //!
 //! A stretch lies between two neighbouring joints (element ends, curve ends, vertices, crossfall
 //! points). In it the height is one quadratic, the other numbers are linear in the station. Each
-//! rounding is a floor with half a unit added; a bias keeps its dividend from being negative.
+//! rounding is a floor with half a unit added; below zero the dividend is one less, so that an
+//! exact half goes away from zero. A bias keeps the dividend from being negative.
 
 use std::io::{self, Write};
 
@@ -14,12 +15,14 @@ const BUFFER: usize = 65_536;
 /// The most bytes of a row: eight numbers, each with a space or newline.
 const LINE_MAX: usize = 8 * (NUMBER_MAX + 1);
 
-/// floor((start + slope × distance) / divisor) − bias; `flat` where the slope is 0.
+/// floor((start + slope × distance) / divisor) − bias, the dividend being one less where it is below
+/// that of the value 0; `flat` where the slope is 0.
 #[derive(Clone, Copy)]
 struct Linear {
     origin: i64,
     start: i64,
     slope: i64,
+    zero: i64,
     divisor: u64,
     bias: i64,
     flat: i64,
@@ -31,6 +34,7 @@ impl Linear {
             origin: 0,
             start: 0,
             slope: 0,
+            zero: 0,
             divisor: 1,
             bias: 0,
             flat,
@@ -39,15 +43,17 @@ impl Linear {
 
     /// round((value + slope × (s − origin)) / divisor), its size being below the bias.
     fn new(origin: i64, value: i64, slope: i64, divisor: i64, bias: i64) -> Self {
-        let start = 2 * (value + bias * divisor) + divisor;
+        let zero = 2 * bias * divisor + divisor;
+        let start = 2 * value + zero;
         if slope == 0 {
-            return Self::constant(start / (2 * divisor) - bias);
+            return Self::constant(lowered(start, zero) / (2 * divisor) - bias);
         }
         let divisor = 2 * divisor as u64;
         Linear {
             origin,
             start,
             slope: 2 * slope,
+            zero,
             divisor,
             bias,
             flat: 0,
@@ -59,13 +65,21 @@ impl Linear {
         if self.slope == 0 {
             return self.flat;
         }
-        let n = self.start + self.slope * (s - self.origin);
+        let n = lowered(self.start + self.slope * (s - self.origin), self.zero);
         (n as u64 / self.divisor) as i64 - self.bias
     }
 }
 
+/// A dividend, one less where it is below that of the value 0.
+#[inline(always)]
+fn lowered(n: i64, zero: i64) -> i64 {
+    n - (n < zero) as i64
+}
+
 /// In mm; no height of a road is as large in size.
 const HEIGHT_BIAS: i64 = 20_000_000;
+/// The dividend of the height 0.
+const HEIGHT_ZERO: i64 = 500_000 + HEIGHT_BIAS * 1_000_000;
 
 /// Height and grade: a tangent, prolonged, and in a vertical curve the parabola added to it.
 #[derive(Clone, Copy)]
@@ -86,13 +100,17 @@ impl Profile {
     fn height(&self, s: i64) -> i64 {
         let u = s - self.begin;
         let mut n = self.height + self.tangent_grade * u;
+        let rise = self.bend * (u * u) as u64;
         if self.bend != 0 {
-            let rise = self.bend * (u * u) as u64;
             if self.hogging {
                 n -= rise.div_ceil(self.four_halves) as i64;
             } else {
                 n += (rise / self.four_halves) as i64;
             }
+        }
+        // Where the parabola's division leaves something, there is no exact half.
+        if n < HEIGHT_ZERO && rise % self.four_halves == 0 {
+            n -= 1;
         }
         (n as u64 / 1_000_000) as i64 - HEIGHT_BIAS
     }
@@ -130,7 +148,7 @@ impl<'a> ProfileCursor<'a> {
     fn straight(begin: i64, height: i64, grade: i64) -> Profile {
         Profile {
             begin,
-            height: height + 500_000 + HEIGHT_BIAS * 1_000_000,
+            height: height + HEIGHT_ZERO,
             tangent_grade: grade,
             grade: Linear::constant(grade),
             bend: 0,
