@@ -96,8 +96,8 @@ crate::phrases! {
     ROW_REASONS: "listed as", "разлог";
 
     LIST_HEADING: "The list", "Списак";
-    LIST_NUMBERS: "The numbers are those of the list, in mm, ppm (10,000 ppm are 1 %) and millionths per metre. A row without a reason is listed as a multiple of the step alone.",
-        "Бројеви су они из списка, у mm, ppm (10.000 ppm је 1 %) и милионитим деловима по метру. Ред без разлога исписан је само као умножак корака.";
+    LIST_NUMBERS: "The numbers are those of the list, in mm, ppm (10,000 ppm are 1 %) and millionths per metre, rounded to the nearest whole number, an exact half away from zero. A row without a reason is listed as a multiple of the step alone.",
+        "Бројеви су они из списка, у mm, ppm (10.000 ppm је 1 %) и милионитим деловима по метру, заокружени на најближи цео број, а тачна половина даље од нуле. Ред без разлога исписан је само као умножак корака.";
     COLUMN_STATION: "station, mm", "стационажа, mm";
     COLUMN_HEIGHT: "axis, mm", "осовина, mm";
     COLUMN_GRADE: "grade, ppm", "подужни нагиб, ppm";
