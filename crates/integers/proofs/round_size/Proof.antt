@@ -1,4 +1,5 @@
 -- The definition, word for word; the doubles fit 64 bits by what is asked of the sizes.
+use native.Mathlib.Omega.{arith}
 use mir.Syntax.{w64}
 use mir.Val.{SFits}
 use mir.Facts.{toZ-ofZ}
@@ -18,7 +19,7 @@ mul-div-floor : tie.Need-mul-div-floor
 mul-div-floor c = simp (toZ-ofZ, c .fits .n) (n-fits c)
 
 add-div-floor : tie.Need-add-div-floor
-add-div-floor c = simp (toZ-ofZ, c .fits .n, c .fits .d, n-fits c) (raised-fits (c .pre .0))
+add-div-floor c = let k = c .pre .0 .divisor in simp (toZ-ofZ, c .fits .n, c .fits .d, n-fits c) (raised-fits (c .pre .0) _ (omega arith))
 
 mul-div-floor-2 : tie.Need-mul-div-floor-2
 mul-div-floor-2 c = simp (toZ-ofZ, c .fits .d) (d-fits c)
@@ -29,7 +30,7 @@ div-floor-requires c κs = simp (toZ-ofZ, c .fits .d, d-fits c) (double-above (c
 returns : tie.Need-returns
 returns c = let s = c .before in
     let k : SFits w64 (c .div-floor .result) = record { sfits = c .div-floor .ok } in
-    simp toZ-ofZ (size-rounded (s .pre .1) (s .pre .0 .above) (simp (toZ-ofZ, s .fits .n, s .fits .d, n-fits s, d-fits s, raised-fits (s .pre .0)) at (c .div-floor .ensures)))
+    simp toZ-ofZ (size-rounded (s .pre .1) (s .pre .0 .above) (simp (toZ-ofZ, s .fits .n, s .fits .d, n-fits s, d-fits s, raised-fits (s .pre .0) (s .args .d) (s .pre .0 .divisor)) at (c .div-floor .ensures)))
 
 pub round-size-spec : {M : Type 1} → statement M
 round-size-spec =
