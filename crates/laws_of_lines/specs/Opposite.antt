@@ -4,10 +4,10 @@ use mathlib.Core.Bool.{true}
 use Prim.Native.Nat.{ℕ, suc, _≤_, _<_}
 use native.Mathlib.Omega.{arith}
 use lib.ListN.{length}
-use lib.IntN.{ℤ, pos, _+ℤ_, _*ℤ_, negℤ}
+use lib.IntN.{pos, _+ℤ_, _*ℤ_, negℤ}
 use Rattle.integers.specs.Bridge.{int, nat, _⊕_, _⊗_, neg, eq!, eq?}
-use Rattle.integers.specs.Fraction.{Frac, _÷_, whole, opposite, _×ᶠ_, _≈ᶠ_}
-use Rattle.integers.specs.Values.{same-value, other-way, _then_, mul-value}
+use Rattle.integers.specs.Fraction.{_÷_, whole, opposite, _×ᶠ_, _≈ᶠ_}
+use Rattle.integers.specs.Values.{same-value, other-way, _then_, mul-value, opposite-value, opposite-product}
 use Rattle.integers.specs.Rounding.{rounded, rounded-value, rounded-opposite}
 use Rattle.road.specs.File.{Road}
 use Rattle.road.specs.Lane.{laneWidth}
@@ -15,16 +15,6 @@ use Rattle.road.specs.Exact.{elementOf, elementStart, isArc, height, Side, left
 use Rattle.road.specs.Line.{printedEdge}
 use Rattle.laws_of_acceptance.specs.Positive.{Accepted}
 use Rattle.laws_of_pieces.specs.Superelevation.{Constant, Superelevated, startPoint, accepted-arc}
-
-opposite-value : {a b : Frac} → a ≈ᶠ b → opposite a ≈ᶠ opposite b
-opposite-value {a} {b} e = record {
-  defined = e .defined;
-  other-defined = e .other-defined;
-  same = eq! (neg (int (a .num)) ⊗ nat (b .den)) (neg (int (b .num)) ⊗ nat (a .den)) (omega (arith, eq? (int (a .num) ⊗ nat (b .den)) (int (b .num) ⊗ nat (a .den)) (e .same)));
-}
-
-opposite-product : (a b : Frac) → opposite a ×ᶠ b ≡ opposite (a ×ᶠ b)
-opposite-product a b = ap (λ (n : ℤ). n ÷ (a ×ᶠ b) .den) (eq! (neg (int (a .num)) ⊗ int (b .num)) (neg (int (a .num) ⊗ int (b .num))) (omega arith))
 
 -- where the lane is as wide, on any two sides at any two stations, of one road or of two
 pub opposite-drop : (d e : Side) (r q : Road) (s t : ℕ) → laneWidth r ≡ laneWidth q → crossfall d r s ≈ᶠ opposite (crossfall e q t) → rounded (edgeDrop d r s) ≡ negℤ (rounded (edgeDrop e q t))

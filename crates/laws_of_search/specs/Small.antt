@@ -4,7 +4,7 @@ use mathlib.Core.List.{[], _∷_}
 use Prim.Native.Nat.{ℕ, zero, suc, _+_, _*_, _≤_, _<_}
 use native.Mathlib.Omega.{arith}
 use native.Mathlib.Decide.{decLt}
-use lib.IntN.{ℤ, pos, _+ℤ_, _-ℤ_, _*ℤ_, natAbs}
+use lib.IntN.{ℤ, pos, _-ℤ_, _*ℤ_, natAbs}
 use Rattle.integers.specs.Bridge.{nat, _⊖_, abs!, abs-sum, abs-difference, abs-product}
 use Rattle.integers.specs.Ring.{_:+_, _:-_, ring, $}
 use Rattle.integers.specs.Rounding.{round, rounded, round-size, round-over-zero}

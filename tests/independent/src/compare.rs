@@ -123,12 +123,11 @@ fn random_buffer(random: &mut Random) -> Vec<u8> {
     random.bytes(length)
 }
 
-/// Halfway between two crossfall points, along an element or in a vertical curve, where what
-/// changes evenly is often an exact half.
+/// Halfway between two crossfall points, along an element or, at a vertex, in a vertical curve:
+/// what changes evenly is often an exact half there.
 fn halfway(random: &mut Random, road: &Alignment) -> i128 {
-    let points = || road.points.iter().map(|point| point.station).collect();
     let ends: Vec<i128> = match random.place(3) {
-        0 => points(),
+        0 => road.points.iter().map(|point| point.station).collect(),
         1 => road::element_starts(road),
         _ => return random.pick(&road::tangent_starts(road)),
     };

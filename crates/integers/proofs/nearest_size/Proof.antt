@@ -5,8 +5,8 @@ use mir.Val.{SFits}
 use mir.Facts.{toZ-ofZ}
 use lib.IntN.{pos, _*ℤ_}
 use Rattle.integers.specs.Width.{double-fits, raised-fits, double-above, size-rounded}
-use Rattle.integers.proofs.round_size.Statement.{statement}
-use Rattle.integers.proofs.round_size.Tie as tie
+use Rattle.integers.proofs.nearest_size.Statement.{statement}
+use Rattle.integers.proofs.nearest_size.Tie as tie
 
 module _ (c : tie.Start) where
   n-fits : SFits w64 (pos 2 *ℤ c .args .n)
@@ -32,6 +32,6 @@ returns c = let s = c .before in
     let k : SFits w64 (c .div-floor .result) = record { sfits = c .div-floor .ok } in
     simp toZ-ofZ (size-rounded (s .pre .1) (s .pre .0 .above) (simp (toZ-ofZ, s .fits .n, s .fits .d, n-fits s, d-fits s, raised-fits (s .pre .0) (s .args .d) (s .pre .0 .divisor)) at (c .div-floor .ensures)))
 
-pub round-size-spec : {M : Type 1} → statement M
-round-size-spec =
+pub nearest-size-spec : {M : Type 1} → statement M
+nearest-size-spec =
     tie.close (tie.spec mul-div-floor add-div-floor mul-div-floor-2 div-floor-requires returns)
