@@ -1,4 +1,4 @@
--- The limits of refusals 1 to 22 at both their sides, about the meanings, as a table with one theorem.
+-- The limits of refusals 1 to 23 at both their sides, about the meanings, as a table with one theorem.
 -- A limit that the table of speeds gives is tried at speeds whose rows differ there.
 use Prim.Native.Nat.{ℕ, suc, _+_, _*_}
 use mathlib.Core.Path.{_≡_, refl}
@@ -7,9 +7,9 @@ use lib.ListN.{length, take, drop, replicate}
 use lib.Dec.{eqb}
 use lib.IntN.{ℤ, pos, negsuc, negℤ}
 use Rattle.file_numbers.specs.Number.{written}
-use Rattle.road.specs.Base.{if_then_else_, countFrom, joined}
+use Rattle.road.specs.Base.{if_then_else_, countFrom, joined, sumOf}
 use Rattle.road.specs.Machine.{refusal, wrote}
-use Rattle.road.specs.Starred.{at40, file, roadFile, slope, point, even, straightRoad, tiltedBend, bendRoad, vertexRoad, theNumber, theRow, theFile, Outcome, value, passes, turnedAway, answered, says, Item, item}
+use Rattle.road.specs.Starred.{at40, file, roadFile, slope, point, even, straightRoad, tiltedBend, bendRoad, vertexRoad, theNumber, theRow, theFile, theCurvature, Outcome, value, printed, passes, turnedAway, answered, says, Item, item}
 use Rattle.road.specs.Compute.{computed}
 
 -- ---- a class and a terrain of each speed in km/h
@@ -300,8 +300,7 @@ plans =
     ∷ kinds (0 ∷ 2 ∷ 2 ∷ 2 ∷ 0 ∷ []) gives turnedAway 7 2
     ∷ kinds (0 ∷ 2 ∷ 1 ∷ 0 ∷ 0 ∷ []) gives turnedAway 7 3
     ∷ kinds (0 ∷ 2 ∷ 1 ∷ 1 ∷ 0 ∷ []) gives turnedAway 7 3
-    ∷ kinds (0 ∷ 2 ∷ 1 ∷ 2 ∷ 1 ∷ []) gives turnedAway 7 4
-    ∷ kinds (0 ∷ 2 ∷ 1 ∷ 2 ∷ 2 ∷ []) gives turnedAway 7 4
+    ∷ kinds (0 ∷ 2 ∷ 1 ∷ 2 ∷ 0 ∷ 2 ∷ 2 ∷ []) gives turnedAway 7 6
     -- 7. it stops short
     ∷ kinds (0 ∷ 2 ∷ []) gives turnedAway 7 2
     ∷ kinds (0 ∷ 2 ∷ 1 ∷ []) gives turnedAway 7 3
@@ -375,6 +374,88 @@ plans =
     ∷ tiltedBend at70 (minus 200_000) 50_000 60_000 50_000 (minus 25_000) (pos 25_000) gives passes
     ∷ tiltedBend at70 (minus 200_000) 49_999 60_000 50_000 (minus 25_000) (pos 25_000) gives turnedAway 12 1
     ∷ tiltedBend at70 (minus 200_000) 50_000 60_000 49_999 (minus 25_000) (pos 25_000) gives turnedAway 12 3
+    ∷ []
+
+-- ---- request A.3: eggs and reversing bends
+
+-- a straight of 1 mm, a bend's clothoid and arc, and the clothoids between it and the next arc; then that arc, a clothoid and a straight of 1 mm; the crossfalls change between the arcs
+abbrev linked : (speed : List ℕ) (straight : ℕ) (first : ℤ) (between : List ℕ) (second : ℤ) → List ℕ
+linked speed long first between second =
+    roadFile speed 5000
+    ((6 + length between) ∷ 0 ∷ long ∷ 2 ∷ 100_000 ∷ 1 ∷ 60_000 ∷ written first ∷ joined (λ n. 2 ∷ n ∷ []) between ++ 1 ∷ 60_000 ∷ written second ∷ 2 ∷ 100_000 ∷ 0 ∷ 1 ∷ [])
+    (slope (long + 320_001 + sumOf (λ n. n) between) (pos 0))
+    (4 ∷ turned 0 first ++ turned (long + 160_000) first ++ turned (long + 160_000 + sumOf (λ n. n) between) second ++ turned (long + 320_001 + sumOf (λ n. n) between) second)
+
+abbrev egg : (speed : List ℕ) (first : ℤ) (long : ℕ) (second : ℤ) → List ℕ
+egg speed first long second = linked speed 1 first (long ∷ []) second
+
+abbrev reversing : (speed : List ℕ) (first : ℤ) (out into : ℕ) (second : ℤ) → List ℕ
+reversing speed first out into second = linked speed 1 first (out ∷ into ∷ []) second
+
+-- a reversing bend to the right and then to the left, a straight, and one more bend
+abbrev reversingThen : (between : ℕ) (last : ℤ) → List ℕ
+reversingThen between last =
+    roadFile at60 5000
+    (12 ∷ 0 ∷ 1 ∷ bendOf (pos 500_000) ++ bendOf (minus 500_000) ++ 0 ∷ between ∷ bendOf last ++ 0 ∷ 1 ∷ [])
+    (slope (780_002 + between) (pos 0))
+    (6 ∷ turned 0 (pos 500_000) ++ turned 160_001 (pos 500_000) ++ turned 360_001 (minus 500_000) ++ turned 420_001 (minus 500_000) ++ turned (620_001 + between) last ++ turned (780_002 + between) last)
+
+abbrev pub links : List Item
+links =
+    -- 7. an egg and a pair of clothoids are in order (all arcs are alike: 23); the place of 23 is the egg, and the second clothoid of the pair
+    kinds (0 ∷ 2 ∷ 1 ∷ 2 ∷ 1 ∷ 2 ∷ 0 ∷ []) gives turnedAway 23 3
+    ∷ kinds (0 ∷ 2 ∷ 1 ∷ 2 ∷ 2 ∷ 1 ∷ 2 ∷ 0 ∷ []) gives turnedAway 23 4
+    -- 7. a pair leads into an arc
+    ∷ kinds (0 ∷ 2 ∷ 1 ∷ 2 ∷ 2 ∷ 0 ∷ []) gives turnedAway 7 5
+    ∷ kinds (0 ∷ 2 ∷ 1 ∷ 2 ∷ 2 ∷ 2 ∷ []) gives turnedAway 7 5
+    -- 7. it stops short, and 7 comes before 23
+    ∷ kinds (0 ∷ 2 ∷ 1 ∷ 2 ∷ 1 ∷ []) gives turnedAway 7 5
+    ∷ kinds (0 ∷ 2 ∷ 1 ∷ 2 ∷ 2 ∷ []) gives turnedAway 7 5
+    -- 23. an egg's radii: equal in size, of one turn, up to 1,000,000
+    ∷ egg at40 (pos 500_000) 100_000 (pos 499_999) gives passes
+    ∷ egg at40 (pos 500_000) 100_000 (pos 500_000) gives turnedAway 23 3
+    ∷ egg at40 (minus 500_000) 100_000 (minus 500_001) gives passes
+    ∷ egg at40 (minus 500_000) 100_000 (minus 500_000) gives turnedAway 23 3
+    ∷ egg at40 (pos 500_000) 100_000 (minus 400_000) gives turnedAway 23 3
+    ∷ egg at40 (minus 500_000) 100_000 (pos 400_000) gives turnedAway 23 3
+    ∷ egg at40 (pos 1_000_000) 100_000 (pos 500_000) gives passes
+    ∷ egg at40 (pos 1_000_001) 100_000 (pos 500_000) gives turnedAway 23 3
+    ∷ egg at40 (minus 500_000) 100_000 (minus 1_000_000) gives passes
+    ∷ egg at40 (minus 500_000) 100_000 (minus 1_000_001) gives turnedAway 23 3
+    -- 23. the arcs around a pair, of any radii
+    ∷ reversing at40 (pos 500_000) 100_000 100_000 (minus 500_000) gives passes
+    ∷ reversing at40 (minus 2_000_000) 100_000 100_000 (pos 3_000_000) gives passes
+    ∷ reversing at40 (pos 500_000) 100_000 100_000 (pos 400_000) gives turnedAway 23 4
+    ∷ reversing at40 (minus 500_000) 100_000 100_000 (minus 400_000) gives turnedAway 23 4
+    -- 23 before 8
+    ∷ linked at60 1_200_001 (pos 500_000) (100_000 ∷ []) (pos 500_000) gives turnedAway 23 3
+    ∷ linked at60 1_200_001 (pos 500_000) (100_000 ∷ []) (pos 400_000) gives turnedAway 8 0
+    -- 9. the nearest arc before the straight is the last of the reversing bend
+    ∷ reversingThen 119_999 (pos 500_000) gives passes
+    ∷ reversingThen 120_000 (minus 500_000) gives passes
+    ∷ reversingThen 119_999 (minus 500_000) gives turnedAway 9 7
+    -- 12. an egg's A squared, met exactly: 35² and 100² m²
+    ∷ egg at40 (pos 49_000) 12_500 (pos 98_000) gives passes
+    ∷ egg at40 (pos 49_000) 12_499 (pos 98_000) gives turnedAway 12 3
+    ∷ egg at70 (minus 400_000) 25_000 (minus 200_000) gives passes
+    ∷ egg at70 (minus 400_000) 24_999 (minus 200_000) gives turnedAway 12 3
+    -- 12. by the old handbook its length
+    ∷ egg (9 ∷ 20_111_231 ∷ at70) (pos 400_000) 60_000 (pos 200_000) gives passes
+    ∷ egg (9 ∷ 20_111_231 ∷ at70) (pos 400_000) 59_999 (pos 200_000) gives turnedAway 12 3
+    -- 12. each clothoid of a pair with its own arc
+    ∷ reversing at70 (pos 200_000) 50_000 40_000 (minus 250_000) gives passes
+    ∷ reversing at70 (pos 200_000) 49_999 40_000 (minus 250_000) gives turnedAway 12 3
+    ∷ reversing at70 (pos 200_000) 50_000 39_999 (minus 250_000) gives turnedAway 12 4
+    -- the curvature of an egg: evenly from one arc's to the other's, to the right and to the left; an exact half away from zero
+    ∷ item (theCurvature 160_001) (egg at40 (pos 50_000) 20_000 (pos 100_000)) (printed (pos 20_000))
+    ∷ item (theCurvature 165_001) (egg at40 (pos 50_000) 20_000 (pos 100_000)) (printed (pos 17_500))
+    ∷ item (theCurvature 180_001) (egg at40 (minus 50_000) 20_000 (minus 100_000)) (printed (minus 10_000))
+    ∷ item (theCurvature 160_002) (egg at40 (pos 50_000) 20_000 (pos 100_000)) (printed (pos 20_000))
+    ∷ item (theCurvature 160_002) (egg at40 (minus 50_000) 20_000 (minus 100_000)) (printed (minus 20_000))
+    -- of a pair: "with curvature 0 where they meet"
+    ∷ item (theCurvature 175_001) (reversing at40 (pos 50_000) 30_000 30_000 (minus 50_000)) (printed (pos 10_000))
+    ∷ item (theCurvature 190_001) (reversing at40 (pos 50_000) 30_000 30_000 (minus 50_000)) (printed (pos 0))
+    ∷ item (theCurvature 205_001) (reversing at40 (pos 50_000) 30_000 30_000 (minus 50_000)) (printed (minus 10_000))
     ∷ []
 
 -- ---- refusal 22, and refusals 10 and 12 by the contract's date
@@ -706,7 +787,7 @@ rows =
     ∷ []
 
 abbrev pub atLimits : List Item
-atLimits = sizes ++ ranges ++ plans ++ contracts ++ profiles ++ crossfalls ++ rows
+atLimits = sizes ++ ranges ++ plans ++ links ++ contracts ++ profiles ++ crossfalls ++ rows
 
 pub at-limits-hold : map (λ (i : Item). says (i .asked) (i .bytes)) atLimits ≡ map (λ (i : Item). i .answer) atLimits
 unfolding computed

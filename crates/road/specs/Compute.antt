@@ -9,7 +9,7 @@ use Rattle.road.specs.Lane.{laneWidth}
 use Rattle.integers.specs.Rounding.{round, rounded}
 use Rattle.road.specs.Exact.{elementStart, tangentStart, total, elementAt, tangentAt, pointAt, rise, startHeight, tangentHeight, inCurve, curveAt, curveHeight, height, grade, crossfallBy, crossfall, edgeDrop, edge, endCurvature, clothoidCurvature, curvatureOn, curvature}
 use Rattle.road.specs.Listed.{multiples, elementEnds, curveStations, stations, insert, ascending, listed, leastFrom, nextListed}
-use Rattle.road.specs.Rules.{firstArc, ownArc, otherTotal, wrongKind, shortStraight, tooShort, shortClothoid, sharpVertex, misplaced, wrongSide, wrongCrossfall, steepRamp, changesBetween, allowed, changesOn, wrongSuperelevation, firstBroken, judge, judged, accepted}
+use Rattle.road.specs.Rules.{firstArc, ownArc, otherTotal, mayFollow, wrongKind, wrongEgg, wrongLink, shortStraight, shortEgg, belowParameter, tooShort, shortClothoid, sharpVertex, misplaced, wrongSide, wrongCrossfall, steepRamp, changesBetween, allowed, changesOn, wrongSuperelevation, firstBroken, judge, judged, accepted}
 use Rattle.decimal.specs.Decimal.{digitsIn, digits, decimal, spaced, word, afterWord, digitsValue, value, numberIn}
 use Rattle.road.specs.Line.{printedEdge, printed, line}
 use Rattle.road.specs.Machine.{rowAnswer, overwrite, rowBuffer, nextAnswer, step, trace}
@@ -27,7 +27,7 @@ unfolding
     round rounded
     elementStart tangentStart total elementAt tangentAt pointAt rise startHeight tangentHeight inCurve curveAt curveHeight height grade crossfallBy crossfall edgeDrop edge endCurvature clothoidCurvature curvatureOn curvature
     multiples elementEnds curveStations stations insert ascending listed leastFrom nextListed
-    firstArc ownArc otherTotal wrongKind shortStraight tooShort shortClothoid sharpVertex misplaced wrongSide wrongCrossfall steepRamp changesBetween allowed changesOn wrongSuperelevation firstBroken judge judged accepted
+    firstArc ownArc otherTotal mayFollow wrongKind wrongEgg wrongLink shortStraight shortEgg belowParameter tooShort shortClothoid sharpVertex misplaced wrongSide wrongCrossfall steepRamp changesBetween allowed changesOn wrongSuperelevation firstBroken judge judged accepted
     digitsIn digits decimal spaced printedEdge printed line
     rowAnswer overwrite rowBuffer nextAnswer step trace
     rowsOf word afterWord digitsValue value numberIn blade oneCurve bound

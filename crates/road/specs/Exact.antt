@@ -168,7 +168,7 @@ edge d r s = height r s +ᶠ edgeDrop d r s
 abbrev pub arcCurvature : ℤ → Frac
 arcCurvature radius = 1_000_000_000 over radius
 
--- what an element's neighbour has where the two meet: an arc its own curvature, a straight 0
+-- "A clothoid therefore carries the curvature at both of its ends": there it has its neighbour's, an arc's own, 0 beside a straight and where two clothoids meet
 unfoldable pub endCurvature : Road → ℕ → Frac
 endCurvature r i = if isArc (elementOf r i) then arcCurvature (elementOf r i .radius) else whole (pos 0)
 
@@ -176,7 +176,7 @@ abbrev pub startCurvature : Road → ℕ → Frac
 startCurvature r zero = whole (pos 0)
 startCurvature r (suc i) = endCurvature r i
 
--- "on a clothoid its arc's 10⁹/R × distance from the clothoid's straight end / clothoid length": evenly from the curvature at its start to that at its end
+-- "its curvature runs evenly from one to the other"; beside a straight "its arc's 10⁹/R × distance from the clothoid's straight end / clothoid length"
 unfoldable pub clothoidCurvature : Road → ℕ → ℕ → Frac
 clothoidCurvature r i s =
     startCurvature r i

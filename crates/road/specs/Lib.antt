@@ -6,6 +6,7 @@ pub mod Lane
 pub mod Exact
 pub mod Held
 pub mod Listed
+pub mod Kinds
 pub mod Rules
 pub mod Line
 pub mod Machine

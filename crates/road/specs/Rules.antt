@@ -1,5 +1,5 @@
--- Document 01, "Numbers that turn a file away": 5 to 19. Each rule is a test of its item with those beside it; a table for each list gives it its number, and the order places it.
-use Prim.Native.Nat.{ℕ, zero, suc, _+_, _*_, _-_, _%_}
+-- Document 01, "Numbers that turn a file away": 5 to 19, and request A.3's 23. Each rule is a test of its item with those beside it; a table for each list gives it its number, and the order places it.
+use Prim.Native.Nat.{ℕ, zero, suc, _+_, _*_, _-_}
 use mathlib.Core.List.{List, [], _∷_, reverse}
 use mathlib.Core.Bool.{Bool, true, false, not, _&&_, _||_}
 use mathlib.Core.Option.{Option, none, some}
@@ -29,11 +29,12 @@ use Rattle.road.specs.declared.Rule.the-variants as rule
 
 -- ---- an item with its place, its list's count, and those beside it; past either end of a list stands the blank item
 
--- an element and where it ends
+-- an element, where it ends, the two before it and the one after it
 pub record ElementAmong : Type 0 where
   pub place : ℕ
   pub count : ℕ
   pub end : ℕ
+  pub earlier : Element
   pub before : Element
   pub element : Element
   pub after : Element
@@ -62,19 +63,22 @@ rightTurn radius = ltZ (pos 0) radius
 abbrev pub leftTurn : ℤ → Bool
 leftTurn radius = ltZ radius (pos 0)
 
+abbrev pub sameTurn : (a b : ℤ) → Bool
+sameTurn a b = rightTurn a && rightTurn b || leftTurn a && leftTurn b
+
 -- the radius of the first arc of some elements; 0 where there is none
 unfoldable pub firstArc : List Element → ℤ
 firstArc [] = pos 0
 firstArc (e ∷ es) = if isArc e then e .radius else firstArc es
 
--- the arcs nearest to element i on either side
+-- "Refusal 9 looks at the nearest arc on either side of a straight."
 abbrev pub arcBefore : Road → ℕ → ℤ
 arcBefore r i = firstArc (reverse (take i (r .plan)))
 
 abbrev pub arcAfter : Road → ℕ → ℤ
 arcAfter r i = firstArc (L.drop (suc i) (r .plan))
 
--- the radius of a clothoid's arc, which follows it or stands before it
+-- the radius of the arc of a clothoid that has one, which follows it or stands before it
 unfoldable pub ownArc : (before after : Element) → ℤ
 ownArc before after = if isArc after then after .radius else before .radius
 
@@ -88,12 +92,38 @@ tooLong end = ltb 100_000_000 end
 unfoldable pub otherTotal : Road → Bool
 otherTotal r = not (eqb (tangentStart r (length (r .tangents))) (total r))
 
--- 7. "The kinds do not run 0, then any count of 2, 1, 2, 0 (place: first wrong element, or the plan count where it stops short)."
-unfoldable pub wrongKind : (place count : ℕ) → Element → Bool
-wrongKind place count e =
+-- what may follow an element and the one before it: a clothoid leads into an arc, or, behind an arc, on to a straight, to the next arc ("egg") or to a second clothoid; a straight and an arc lead into a clothoid
+unfoldable pub mayFollow : (earlier before e : Element) → Bool
+mayFollow earlier before e =
+    if isClothoid before
+    then isArc e || isArc earlier && (isStraight e || isClothoid e)
+    else isClothoid e
+
+-- "beginning .. with a straight"
+abbrev pub mayStand : (place : ℕ) → (earlier before e : Element) → Bool
+mayStand zero earlier before e = isStraight e
+mayStand (suc _) earlier before e = mayFollow earlier before e
+
+-- 7. "its place is the first element whose kind no allowed order, however long, can have after the kinds before it, or the plan count where it stops short": a plan ends with a straight.
+-- The allowed orders stand in `Kinds`; that this is their first place without a continuation is a theorem, `laws_of_acceptance/Kinds`.
+unfoldable pub wrongKind : (place count : ℕ) → (earlier before e : Element) → Bool
+wrongKind place count earlier before e =
     if ltb place count
-    then not (eqb (e .kind) (getD (0 ∷ 2 ∷ 1 ∷ 2 ∷ []) (place % 4) 0))
-    else not (eqb (place % 4) 1)
+    then not (mayStand place earlier before e)
+    else not (ltb 0 place && isStraight before)
+
+-- "An egg with equal radii, opposite turns or a radius, unsigned, over 1,000,000 mm"
+unfoldable pub wrongEgg : (first second : ℤ) → Bool
+wrongEgg first second =
+    eqb (natAbs first) (natAbs second) || not (sameTurn first second)
+    || ltb 1_000_000 (natAbs first) || ltb 1_000_000 (natAbs second)
+
+-- 23. "An egg with .., or a pair of clothoids between arcs of the same turn, is refused with 23 right after 7, its place being the clothoid, the second one of a pair."
+unfoldable pub wrongLink : (earlier before e after : Element) → Bool
+wrongLink earlier before e after =
+    isClothoid e && isArc after
+    && (isArc before && wrongEgg (before .radius) (after .radius)
+    || isClothoid before && isArc earlier && sameTurn (earlier .radius) (after .radius))
 
 -- 8. "A straight is longer than straight max (place: element)."
 abbrev pub longStraight : Limits → Element → Bool
@@ -103,7 +133,7 @@ longStraight l e = isStraight e && ruled (l .straightMax) && ltb (l .straightMax
 unfoldable pub shortStraight : Limits → (before : ℤ) → Element → (after : ℤ) → Bool
 shortStraight l before e after =
     isStraight e && ruled (l .straightMin)
-    && (rightTurn before && rightTurn after || leftTurn before && leftTurn after)
+    && sameTurn before after
     && ltb (e .length) (l .straightMin)
 
 -- 10. "An arc's radius, unsigned, is below R min (place: element)."
@@ -114,14 +144,25 @@ tightArc l e = isArc e && ltb (natAbs (e .radius)) (l .radiusMin)
 abbrev pub shortArc : Limits → Element → Bool
 shortArc l e = isArc e && ltb (e .length) (l .arcMin)
 
--- "A clothoid's length times its arc's unsigned radius is below A min squared"; by the old handbook "A min gives way to a least clothoid length"
-unfoldable pub tooShort : LeastClothoid → (length radius : ℕ) → Bool
-tooShort (Parameter a) length radius = ltb (length * radius) (a * a)
-tooShort (Length least) length radius = ltb length least
+-- "For the egg, A squared is length × R1 × R2 / |R1 − R2|, unsigned, and it must reach A min squared"
+unfoldable pub shortEgg : (parameter length : ℕ) → (first second : ℤ) → Bool
+shortEgg a length first second = ltb (length * natAbs first * natAbs second) (a * a * natAbs (first -ℤ second))
 
--- 12. A clothoid is too short for its arc, or for the old handbook (place: element).
+-- "A clothoid's length times its arc's unsigned radius is below A min squared"
+unfoldable pub belowParameter : (parameter length : ℕ) → (before after : Element) → Bool
+belowParameter a length before after =
+    if isArc before && isArc after
+    then shortEgg a length (before .radius) (after .radius)
+    else ltb (length * natAbs (ownArc before after)) (a * a)
+
+-- by the old handbook "A min gives way to a least clothoid length"
+unfoldable pub tooShort : LeastClothoid → (length : ℕ) → (before after : Element) → Bool
+tooShort (Parameter a) length before after = belowParameter a length before after
+tooShort (Length least) length before after = ltb length least
+
+-- 12. A clothoid is too short for its arc or its arcs, or for the old handbook (place: element).
 unfoldable pub shortClothoid : Limits → (before e after : Element) → Bool
-shortClothoid l before e after = isClothoid e && tooShort (l .clothoid) (e .length) (natAbs (ownArc before after))
+shortClothoid l before e after = isClothoid e && tooShort (l .clothoid) (e .length) before after
 
 -- 13. "A grade, unsigned, is over grade max (place: tangent)."
 abbrev pub steepTangent : Limits → Tangent → Bool
@@ -224,7 +265,8 @@ eachPair n test = record { number = n; places = λ count. count - 1; broken = te
 
 abbrev pub elementTest : ElementRule → ItemTest ElementAmong
 elementTest element.PlanLength = each 5 λ l e. tooLong (e .end)
-elementTest element.Kinds = eachAndBehind 7 λ l e. wrongKind (e .place) (e .count) (e .element)
+elementTest element.Kinds = eachAndBehind 7 λ l e. wrongKind (e .place) (e .count) (e .earlier) (e .before) (e .element)
+elementTest element.LinkedArcs = each 23 λ l e. wrongLink (e .earlier) (e .before) (e .element) (e .after)
 elementTest element.LongStraight = each 8 λ l e. longStraight l (e .element)
 elementTest element.TightArc = each 10 λ l e. tightArc l (e .element)
 elementTest element.ShortArc = each 11 λ l e. shortArc l (e .element)
@@ -242,9 +284,12 @@ pointTest point.SteepRamp = eachPair 18 λ l p. steepRamp (l .lane) (p .ramp) (p
 
 -- ---- the rules on a road
 
--- the item before item i
+-- the item before item i, and the element before that
 abbrev pub elementBefore : Road → ℕ → Element
 elementBefore r i = getD (blankElement ∷ r .plan) i blankElement
+
+abbrev pub elementEarlier : Road → ℕ → Element
+elementEarlier r i = getD (blankElement ∷ blankElement ∷ r .plan) i blankElement
 
 abbrev pub pointBefore : Road → ℕ → Crossfall
 pointBefore r i = getD (blankCrossfall ∷ r .crossfalls) i blankCrossfall
@@ -254,6 +299,7 @@ elementAmong r i = record {
   place = i;
   count = length (r .plan);
   end = elementStart r (suc i);
+  earlier = elementEarlier r i;
   before = elementBefore r i;
   element = elementOf r i;
   after = elementOf r (suc i);
@@ -293,6 +339,7 @@ order =
     rule.Element element.PlanLength
     ∷ rule.OtherTotal
     ∷ rule.Element element.Kinds
+    ∷ rule.Element element.LinkedArcs
     ∷ rule.Element element.LongStraight
     ∷ rule.ShortStraight
     ∷ rule.Element element.TightArc
@@ -331,6 +378,6 @@ abbrev pub under : Verdict → Road → ℕ → Got Road
 under passes r at = got r at
 under (breaks n p) r at = refused n p
 
--- the road of a file, or the refusal 1 to 19 or 22 that turns the file away
+-- the road of a file, or the refusal 1 to 19, 22 or 23 that turns the file away
 unfoldable pub accepted : List ℕ → Got Road
 accepted s = andThen (read s) λ r at. under (judged (limits r) r) r at

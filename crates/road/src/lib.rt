@@ -65,6 +65,7 @@ pub struct AcceptedRoad {
 pub enum ElementRule {
     PlanLength,
     Kinds,
+    LinkedArcs,
     LongStraight,
     TightArc,
     ShortArc,
