@@ -2,7 +2,7 @@
 use mathlib.Core.Path.{_≡_}
 use mathlib.Core.Bool.{true}
 use mathlib.Core.List.{List}
-use Prim.Native.Nat.{ℕ, _+_, _-_, _≤_, _<_}
+use Prim.Native.Nat.{ℕ, suc, _+_, _-_, _≤_, _<_}
 use native.Mathlib.Omega.{arith}
 use lib.ListN.{length}
 use lib.IntN.{natAbs}
@@ -11,9 +11,10 @@ use Rattle.road.specs.File.{Road}
 use Rattle.road.specs.Exact.{elementOf, tangentOf, pointOf, isArc, elementStart, tangentStart, total, vertexCount, vertex, halfLength, Side, crossfallOf}
 use Rattle.road.specs.Lane.{laneWidth}
 use Rattle.road.specs.Rules.{accepted}
-use Rattle.laws_of_acceptance.specs.PlanOrder.{PlanOrder}
+use Rattle.laws_of_acceptance.specs.PlanOrder.{Stands, PlanOrder}
+use Rattle.laws_of_acceptance.specs.Links.{Egg}
 use Rattle.laws_of_acceptance.specs.Ranged.{Within}
-use Rattle.laws_of_acceptance.specs.Positive.{Accepted, accepted-road, plan-ordered, facts}
+use Rattle.laws_of_acceptance.specs.Positive.{Accepted, accepted-road, plan-ordered, eggs-linked, facts}
 use Rattle.laws_of_acceptance.specs.Table.{lane-range}
 use Rattle.laws_of_acceptance.specs.Facts.{Facts, Level, points-inside, curve-begins, curve-ends}
 use Rattle.laws_of_acceptance.specs.Ranges.{element-in, tangent-in, crossfall-in, total-small, total-positive, element-inside, tangent-inside, level}
@@ -37,8 +38,9 @@ pub record Guaranteed (r : Road) : Type 0 where
   pub point-count : Within 2 200 (length (r .crossfalls))
   -- T
   pub whole : Within 1 100000000 (total r)
-  -- the plan: straight, clothoid, arc, clothoid, .. , straight
+  -- the plan: what follows a straight and an arc; the arcs beside an egg
   pub plan-order : PlanOrder r
+  pub egg : (i : ℕ) → Stands r 1 i → Stands r 2 (suc i) → Stands r 1 (suc (suc i)) → Egg (elementOf r i .radius) (elementOf r (suc (suc i)) .radius)
   pub element-length : (i : ℕ) → i < length (r .plan) → Within 1 10000000 (elementOf r i .length)
   pub radius : (i : ℕ) → i < length (r .plan) → isArc (elementOf r i) ≡ true → Within 10000 10000000 (natAbs (elementOf r i .radius))
   pub element-start : (i : ℕ) → i ≤ length (r .plan) → elementStart r i ≤ total r
@@ -76,6 +78,7 @@ both {r} A R =
       point-count = A .ranges .points .count;
       whole = record { low = total-positive A; high = total-small A };
       plan-order = plan-ordered A;
+      egg = eggs-linked A;
       element-length = λ i h. element-in A i h .length;
       radius = λ i h. element-in A i h .radius .arc;
       element-start = element-inside A;

@@ -113,6 +113,7 @@ in-order : (rule : Rule) → InOrder rule
 unfolding placeOf firstThat firstFrom
 in-order (rule.Element element.PlanLength) = record { within = refl; there = refl }
 in-order (rule.Element element.Kinds) = record { within = refl; there = refl }
+in-order (rule.Element element.LinkedArcs) = record { within = refl; there = refl }
 in-order (rule.Element element.LongStraight) = record { within = refl; there = refl }
 in-order (rule.Element element.TightArc) = record { within = refl; there = refl }
 in-order (rule.Element element.ShortArc) = record { within = refl; there = refl }

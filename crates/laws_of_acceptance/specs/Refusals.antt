@@ -1,13 +1,13 @@
 -- Which files are turned away: a file is accepted if and only if it reads and no item breaks a rule; from 5 on the first rule of the order that some item breaks is named, with its first such item.
 use mathlib.Core.Path.{_≡_, refl, sym, ap, _∙_, subst}
-use mathlib.Core.Bool.{Bool, true, false, _&&_}
+use mathlib.Core.Bool.{Bool, true, false, _&&_, _||_}
 use mathlib.Core.Logic.{_⊎_, inl, inr, _↔_}
 use mathlib.Core.List.{List}
 use mathlib.Core.Option.{Option, none, some}
 use Prim.Native.Nat.{ℕ, zero, suc, _≤_}
 use native.Mathlib.Omega.{arith}
 use lib.ListN.{length, drop}
-use lib.Dec.{leb, ltb, eqb, leb→le}
+use lib.Dec.{T, leb, ltb, eqb, leb→le, eqb→eq}
 use lib.IntN.{ℤ, pos, negsuc}
 use Rattle.file_numbers.specs.Reading.{Got, got, refused, andThen, Reading, _>>=_, give, many}
 use Rattle.file_numbers.specs.Number.{Groups, groups, sound, checkedFrom, numberFrom, number, signedOf}
@@ -17,7 +17,7 @@ use Rattle.days.specs.Day.{isDay}
 use Rattle.road.specs.Limits.{Limits, limits}
 use Rattle.road.specs.Rules.{Verdict, passes, breaks, roadTest, order, judged, under, accepted}
 use Rattle.laws_of_acceptance.specs.Judging.{Keeps, ruleAt, Broken, passes-kept, kept-passes, kept-by-name, judge-broken, broken-judge}
-use Rattle.laws_of_lists.specs.Tests.{and-T}
+use Rattle.laws_of_lists.specs.Tests.{and-T, or-T}
 use Rattle.road.specs.declared.Contract.{Contract}
 use Rattle.road.specs.declared.Contract.the-variants.{Undated}
 use Rattle.road.specs.declared.Rule.{Rule}
@@ -27,18 +27,29 @@ use Rattle.laws_of_acceptance.specs.Ranged.{went, Within}
 use Rattle.file_numbers.specs.Refused.{refused-not-got}
 use Rattle.laws_of_lists.specs.Each.{each-below}
 
+-- in a range of numbers, or one number beside it
+abbrev pub WithinOr : (low high other n : ℕ) → Type 0
+WithinOr low high other n = Within low high n ⊎ (n ≡ other)
+
 -- ---- the rules
 -- the first rule of the order that some item breaks, with its first such item; every rule before it is kept
 pub judged-iff : (l : Limits) (r : Road) (n p : ℕ) → (judged l r ≡ breaks n p) ↔ Broken order l r n p
 unfolding judged
 judged-iff l r n p = (judge-broken l r order n p, broken-judge l r order n p)
 
--- its number is from 5 to 19
-pub rule-number : (l : Limits) (r : Road) {n p : ℕ} → Broken order l r n p → Within 5 19 n
-rule-number l r b =
-    let n : ℕ = roadTest (ruleAt order (b .place)) .number in
-    let t = and-T (leb 5 n) (leb n 19) (each-below (λ x. leb 5 (roadTest x .number) && leb (roadTest x .number) 19) (rule.Element element.PlanLength) order tt (b .place) (b .within)) in
-    subst (Within 5 19) (b .number) (record { low = leb→le 5 n (t .0); high = leb→le n 19 (t .1) })
+abbrev known : ℕ → Bool
+known n = leb 5 n && leb n 19 || eqb n 23
+
+-- its number is from 5 to 19, or 23
+pub rule-number : (l : Limits) (r : Road) {n p : ℕ} → Broken order l r n p → WithinOr 5 19 23 n
+rule-number l r b = subst (WithinOr 5 19 23) (b .number) (go (roadTest (ruleAt order (b .place)) .number) (each-below (λ x. known (roadTest x .number)) (rule.Element element.PlanLength) order tt (b .place) (b .within)))
+  where
+    go : (n : ℕ) → T (known n) → WithinOr 5 19 23 n
+    go n t = by (or-T (leb 5 n && leb n 19) (eqb n 23) t)
+      where
+        by : T (leb 5 n && leb n 19) ⊎ T (eqb n 23) → WithinOr 5 19 23 n
+        by (inl u) = let w = and-T (leb 5 n) (leb n 19) u in inl (record { low = leb→le 5 n (w .0); high = leb→le n 19 (w .1) })
+        by (inr u) = inr (eqb→eq n 23 u)
 
 -- ---- the file
 pub accepted-iff : (f : List ℕ) (r : Road) (end : ℕ) → (accepted f ≡ got r end) ↔ ((read f ≡ got r end) × ((rule : Rule) → Keeps rule (limits r) r))
@@ -90,19 +101,15 @@ refused-iff f n p = (there, back)
         ∙ ap (λ (v : Verdict). under v (b .road) (b .end)) (judged-iff (limits (b .road)) (b .road) n p .1 (b .lowest))
 
 -- ---- "The reading refusals are 1 to 4", and 22 at the date
--- in a range of numbers, or the date's 22
-abbrev pub WithinOrDate : (low high n : ℕ) → Type 0
-WithinOrDate low high n = Within low high n ⊎ (n ≡ 22)
-
 abbrev Refuses : {A : Type 0} → (low high : ℕ) → Got A → Type 0
 Refuses low high (got a next) = Unit {0}
-Refuses low high (refused n p) = WithinOrDate low high n
+Refuses low high (refused n p) = WithinOr low high 22 n
 
 -- a faulty number gives 2 or 3, or 22
 record Faulty {A : Type 0} (m : Reading A) : Type 0 where
   at-most : (s : List ℕ) (at : ℕ) → Refuses 2 3 (m s at)
 
-only : {low high : ℕ} (n : ℕ) → low ≤ n → n ≤ high → WithinOrDate low high n
+only : {low high : ℕ} (n : ℕ) → low ≤ n → n ≤ high → WithinOr low high 22 n
 only n l h = inl (record { low = l; high = h })
 
 faulty-after : {A B : Type 0} (m : Got A) (f : A → ℕ → Got B) → Refuses 2 3 m → ((a : A) (next : ℕ) → Refuses 2 3 (f a next)) → Refuses 2 3 (andThen m f)
@@ -127,7 +134,7 @@ faulty-number = record { at-most = λ s at. go at (groups (drop at s)) }
     go at none = only 2 (omega arith) (omega arith)
     go at (some g) = checked at g (sound g)
 
-faulty-fitting : {A : Type 0} (refusal : ℕ) → WithinOrDate 2 3 refusal → (fits : A → Bool) (a : A) (at : ℕ) (s : List ℕ) (next : ℕ) → Refuses 2 3 (fitting refusal fits a at s next)
+faulty-fitting : {A : Type 0} (refusal : ℕ) → WithinOr 2 3 22 refusal → (fits : A → Bool) (a : A) (at : ℕ) (s : List ℕ) (next : ℕ) → Refuses 2 3 (fitting refusal fits a at s next)
 unfolding fitting
 faulty-fitting refusal known fits a at s next = go (fits a)
   where
@@ -198,5 +205,5 @@ read-refuses f = go (ltb 8192 (length f))
     go true = only 1 (omega arith) (omega arith)
     go false = inner (fields f 0) (faulty-fields .at-most f 0)
 
-pub read-number : (f : List ℕ) (n p : ℕ) → read f ≡ refused n p → WithinOrDate 1 4 n
+pub read-number : (f : List ℕ) (n p : ℕ) → read f ≡ refused n p → WithinOr 1 4 22 n
 read-number f n p e = subst (Refuses 1 4) e (read-refuses f)

@@ -13,6 +13,10 @@ pub and-T : (a b : Bool) → T (a && b) → T a × T b
 and-T true b t = (tt, t)
 and-T false b t = absurd t
 
+pub or-T : (a b : Bool) → T (a || b) → T a ⊎ T b
+or-T true b t = inl tt
+or-T false b t = inr t
+
 pub and-left : (a b : Bool) → (a && b) ≡ true → a ≡ true
 and-left true b e = refl
 and-left false b e = e

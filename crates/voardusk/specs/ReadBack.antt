@@ -20,7 +20,7 @@ use Rattle.road.specs.Rules.{accepted}
 use Rattle.road.specs.Machine.{Answer, refusal, wrote, station, noStation, rowOn, rowAnswer, stationOr, nextOn, nextAnswer}
 use Rattle.laws_of_acceptance.specs.Guaranteed.{Guaranteed, guaranteed}
 use Rattle.laws_of_stations.specs.Next.{Least, least, nothing, next-least, listed-has}
-use Rattle.laws_of_acceptance.specs.Refusals.{ByRule, refused-iff, read-number, rule-number, WithinOrDate}
+use Rattle.laws_of_acceptance.specs.Refusals.{ByRule, refused-iff, read-number, rule-number, WithinOr}
 use Rattle.walk.specs.FittingRows.{chunk, onward, answer}
 use Rattle.walk.specs.Inside.{listed-inside}
 use Rattle.walk.specs.AllChunks.{onward-listed}
@@ -47,13 +47,13 @@ listSaid (suc k) p s = turnedAway (suc k) p
 number-above : (f : List ℕ) (n p : ℕ) → accepted f ≡ refused n p → 1 ≤ n
 number-above f n p e = go (refused-iff f n p .0 e)
   where
-    by-reading : WithinOrDate 1 4 n → 1 ≤ n
-    by-reading (inl w) = w .low
-    by-reading (inr e) = omega arith
+    above : {low high other : ℕ} → 1 ≤ low → 1 ≤ other → WithinOr low high other n → 1 ≤ n
+    above h k (inl w) = let l = w .low in omega arith
+    above h k (inr e) = omega arith
 
     go : (read f ≡ refused n p) ⊎ ByRule f n p → 1 ≤ n
-    go (inl r) = by-reading (read-number f n p r)
-    go (inr b) = omega (arith, rule-number (limits (b .road)) (b .road) (b .lowest) .low)
+    go (inl r) = above (omega arith) (omega arith) (read-number f n p r)
+    go (inr b) = above (omega arith) (omega arith) (rule-number (limits (b .road)) (b .road) (b .lowest))
 
 row-refusal : (n p : ℕ) → 1 ≤ n → rowSaid n p ≡ refusal n p
 row-refusal zero p h = absurd (omega arith)
