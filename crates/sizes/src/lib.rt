@@ -1,9 +1,9 @@
 // Numbers of 32 bits: differences, sizes, and how two of them lie to each other.
 ghost use mathlib.Core.Path.{_≡_};
-ghost use Prim.Native.Nat.{_*_, _-_};
+ghost use Prim.Native.Nat.{_+_, _*_, _-_, _<_};
 ghost use lib.IntN.{pos, natAbs, negℤ, _-ℤ_};
 ghost use lib.Signed.{ltZ};
-ghost use lib.Dec.{eqb};
+ghost use lib.Dec.{eqb, ltb};
 
 // How far x is above y; 0 where it is not.
 pub fn above(x: u32, y: u32) -> u32
@@ -70,4 +70,31 @@ pub fn product(x: u32, y: u32) -> u64
     ensures { λ r. ⌜ r ≡ x * y ⌝ }
 {
     x as u64 * y as u64
+}
+
+// A number of up to 96 bits: high × 2³² + low.
+pub struct Wide {
+    pub high: u64,
+    pub low: u64,
+}
+
+// The product of a number of 64 bits and one of 32.
+fn wide_product(x: u64, y: u32) -> Wide
+    ensures { λ r. ⌜ r .high * 4294967296 + r .low ≡ x * y ⌝ ∗ ⌜ r .low < 4294967296 ⌝ }
+{
+    let upper = x / 4294967296 * y as u64;
+    let lower = x % 4294967296 * y as u64;
+    Wide {
+        high: upper + lower / 4294967296,
+        low: lower % 4294967296,
+    }
+}
+
+// Whether x y is below v w, products that need not fit 64 bits.
+pub fn is_product_below(x: u64, y: u32, v: u64, w: u32) -> bool
+    ensures { λ r. ⌜ r ≡ ltb (x * y) (v * w) ⌝ }
+{
+    let p = wide_product(x, y);
+    let q = wide_product(v, w);
+    (p.high < q.high) | ((p.high == q.high) & (p.low < q.low))
 }
