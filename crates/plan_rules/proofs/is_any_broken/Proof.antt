@@ -6,7 +6,9 @@ use Rattle.plan_rules.proofs.is_any_broken.Tie as tie
 
 returns : tie.Need-returns
 unfolding anyBroken
-returns c = rw (c .before .before .before .before .is-wrong-kind .ensures, c .before .before .before .is-long-straight .ensures, c .before .before .is-tight-arc .ensures, c .before .is-short-arc .ensures, c .is-short-clothoid .ensures)
+returns c =
+    let link = c .before .before .before .before in
+    rw (link .before .is-wrong-kind .ensures, link .is-wrong-link .ensures, c .before .before .before .is-long-straight .ensures, c .before .before .is-tight-arc .ensures, c .before .is-short-arc .ensures, c .is-short-clothoid .ensures)
 
 pub is-any-broken-spec : {M : Type 1} → statement M
-is-any-broken-spec = tie.close (tie.spec (λ c _. search needs) (λ c _. search needs) (λ c _. search needs) (λ c _. search needs) (λ c _. search needs) returns)
+is-any-broken-spec = tie.close (tie.spec (λ c _. search needs) (λ c _. search needs) (λ c _. search needs) (λ c _. search needs) (λ c _. search needs) (λ c _. search needs) returns)

@@ -1,6 +1,4 @@
-use mir.Syntax.{w32}
-use mir.Val.{SFits}
-use mir.Facts.{toZ-ofZ}
+use borrow.Author.Tests.{eq-eqb, ne-eqb}
 use Rattle.road.specs.Rules.{shortClothoid}
 use borrow.Author.Needs.{needs}
 use Rattle.plan_rules.proofs.is_short_clothoid.Statement.{statement}
@@ -8,10 +6,11 @@ use Rattle.plan_rules.proofs.is_short_clothoid.Tie as tie
 
 returns : tie.Need-returns
 unfolding shortClothoid
-returns c =
-    let own = c .before .before .before .own-arc in
-    let k : SFits w32 (own .result) = record { sfits = own .ok } in
-    rw (c .is-too-short .ensures, c .before .before .size .ensures, toZ-ofZ k, own .ensures)
+returns c = rw (ne-eqb (c .before .before .args .e .kind) 2 (c .if1 .taken))
+
+returns-2 : tie.Need-returns-2
+unfolding shortClothoid
+returns-2 c = rw (eq-eqb (c .before .before .before .args .e .kind) 2 (c .before .if1 .left), c .is-too-short .ensures)
 
 pub is-short-clothoid-spec : {M : Type 1} → statement M
-is-short-clothoid-spec = tie.close (tie.spec (λ c _. search needs) (λ c _. search needs) (λ c _. search needs) returns)
+is-short-clothoid-spec = tie.close (tie.spec returns (λ c _. search needs) returns-2)
