@@ -11,7 +11,7 @@ use Rattle.road.specs.Base.{firstThat, sumOf}
 use Rattle.road.specs.File.{Road}
 use Rattle.road.specs.Limits.{Limits}
 use Rattle.road.specs.Exact.{blankElement, elementOf, tangentOf, pointOf, elementStart, total, tangentBefore}
-use Rattle.road.specs.Rules.{ElementAmong, TangentAmong, PointAmong, elementTest, roadTest, firstBroken, elementBefore, elementAmong, tangentAmong, pointBefore, pointAmong}
+use Rattle.road.specs.Rules.{ElementAmong, TangentAmong, PointAmong, elementTest, roadTest, firstBroken, elementEarlier, elementBefore, elementAmong, tangentAmong, pointBefore, pointAmong}
 use Rattle.laws_of_acceptance.specs.Lists.{element-step, Sums, sums-start, sums-on}
 use Rattle.road.specs.declared.Element.{Element}
 use Rattle.road.specs.declared.Tangent.{Tangent}
@@ -53,37 +53,39 @@ pub point-among : (r : Road) (i : ℕ) {count whole : ℕ} {before p after : Cro
     → _≡_ {A = PointAmong} (record { place = i; count = count; whole = whole; ramp = r .head .ramp; before = before; point = p; after = after }) (pointAmong r i)
 point-among r i a b c d e = rw (a, b, c, d, e)
 
-pub element-among : (r : Road) (i : ℕ) {count end : ℕ} {before e after : Element}
-    → count ≡ length (r .plan) → end ≡ elementStart r (suc i) → before ≡ elementBefore r i → e ≡ elementOf r i → after ≡ elementOf r (suc i)
-    → _≡_ {A = ElementAmong} (record { place = i; count = count; end = end; before = before; element = e; after = after }) (elementAmong r i)
-element-among r i a b c d e = rw (a, b, c, d, e)
+pub element-among : (r : Road) (i : ℕ) {count end : ℕ} {earlier before e after : Element}
+    → count ≡ length (r .plan) → end ≡ elementStart r (suc i) → earlier ≡ elementEarlier r i → before ≡ elementBefore r i → e ≡ elementOf r i → after ≡ elementOf r (suc i)
+    → _≡_ {A = ElementAmong} (record { place = i; count = count; end = end; earlier = earlier; before = before; element = e; after = after }) (elementAmong r i)
+element-among r i a b c d e f = rw (a, b, c, d, e, f)
 
--- ---- the loop over the elements: `e` is element i, and begins at `sum`
+-- ---- the loop over the elements: `e` is element i, and begins at `sum`; `earlier` and `before` stand before it
 
-pub record Around (x : ElementRule) (l : Limits) (r : Road) (n places i sum : ℕ) (before e : Element) : Type 0 where
+pub record Around (x : ElementRule) (l : Limits) (r : Road) (n places i sum : ℕ) (earlier before e : Element) : Type 0 where
   pub looking : Looking (rule.Element x) l r (elementBefore r) 201 n places i before
+  pub second : earlier ≡ elementEarlier r i
   pub here : e ≡ elementOf r i
   pub begin : Sums (elementStart r) 201 i sum
 
-pub around-start : {x : ElementRule} {l : Limits} {r : Road} {n places : ℕ} {e : Element} → places ≤ n → n ≤ 201 → places ≡ elementTest x .places (length (r .plan)) → e ≡ elementOf r 0 → Around x l r n places 0 0 blankElement e
+pub around-start : {x : ElementRule} {l : Limits} {r : Road} {n places : ℕ} {e : Element} → places ≤ n → n ≤ 201 → places ≡ elementTest x .places (length (r .plan)) → e ≡ elementOf r 0 → Around x l r n places 0 0 blankElement blankElement e
 unfolding elementStart sumOf
-around-start few room all first = record { looking = record { few = few; room = room; all = all; behind = refl; passed = start }; here = first; begin = sums-start (omega arith) refl }
+around-start few room all first = record { looking = record { few = few; room = room; all = all; behind = refl; passed = start }; second = refl; here = first; begin = sums-start (omega arith) refl }
 
-module _ {x : ElementRule} {l : Limits} {r : Road} {n places i sum : ℕ} {before e : Element} (a : Around x l r n places i sum before e)
+module _ {x : ElementRule} {l : Limits} {r : Road} {n places i sum : ℕ} {earlier before e : Element} (a : Around x l r n places i sum earlier before e)
     {count : ℕ} {after : Element} {b : Bool} (inside : i < places) (small : e .length ≤ 4294967295) (counted : count ≡ length (r .plan)) (next : after ≡ elementOf r (suc i))
-    (tested : b ≡ elementTest x .broken l (record { place = i; count = count; end = sum + e .length; before = before; element = e; after = after })) where
+    (tested : b ≡ elementTest x .broken l (record { place = i; count = count; end = sum + e .length; earlier = earlier; before = before; element = e; after = after })) where
   ends : Sums (elementStart r) 201 (i + 1) (sum + e .length)
   ends = let few = a .looking .few in let room = a .looking .room in sums-on (a .begin) (omega arith) small (element-step r i ∙ ap (λ (x : Element). elementStart r i + x .length) (sym (a .here)))
 
   broken : b ≡ elementTest x .broken l (elementAmong r i)
-  broken = tested ∙ ap (λ (y : ElementAmong). elementTest x .broken l y) (element-among r i counted (ends .is ∙ ap (elementStart r) (add-one i)) (a .looking .behind) (a .here) next)
+  broken = tested ∙ ap (λ (y : ElementAmong). elementTest x .broken l y) (element-among r i counted (ends .is ∙ ap (elementStart r) (add-one i)) (a .second) (a .looking .behind) (a .here) next)
 
   pub around-found : b ≡ true → some i ≡ firstBroken (rule.Element x) l r
   around-found t = looking-found (a .looking) inside broken t
 
-  pub around-on : b ≡ false → Around x l r n places (i + 1) (sum + e .length) e after
+  pub around-on : b ≡ false → Around x l r n places (i + 1) (sum + e .length) before e after
   around-on f = record {
     looking = looking-on (a .looking) inside broken (a .here) f;
+    second = a .looking .behind ∙ ap (elementEarlier r) (sym (add-one i));
     here = next ∙ ap (λ (k : ℕ). elementOf r k) (sym (add-one i));
     begin = ends;
   }

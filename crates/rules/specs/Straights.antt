@@ -13,7 +13,7 @@ use Rattle.road.specs.File.{Road}
 use Rattle.road.specs.Limits.{Limits}
 use Rattle.road.specs.Exact.{blankElement, elementOf, isStraight, isArc}
 use Rattle.road.specs.Rules.{firstArc, arcBefore, arcAfter, shortStraight}
-use Rattle.laws_of_acceptance.specs.PlanOrder.{PlanOrder, Stands, BesideClothoid, entry, exit}
+use Rattle.laws_of_acceptance.specs.PlanOrder.{PlanOrder, Stands}
 use Rattle.road.specs.declared.Element.{Element}
 
 -- the arc before, one element on
@@ -49,18 +49,11 @@ no-arc-at l i h k = rw (drop-cons l i blankElement h) (rw k)
 
 -- a straight leads into a clothoid, and that into an arc; past the last straight there is none
 module _ (r : Road) (order : PlanOrder r) (i : ℕ) (straight : Stands r 0 i) where
-  arc-second : suc i < length (r .plan) → Stands r 1 (suc (suc i))
-  arc-second h = go (order .clothoid (suc i) (order .straight i straight h))
-    where
-      go : BesideClothoid r (suc i) → Stands r 1 (suc (suc i))
-      go (entry j e s a) = a
-      go (exit j e a s) = absurd (let k = straight .is in let m = a .is in let q : i ≡ j = omega arith in let same = ap (λ (k : ℕ). elementOf r k .kind) q in omega arith)
-
-  after-is : arcAfter r i ≡ elementOf r (suc (suc i)) .radius
+  pub after-is : arcAfter r i ≡ elementOf r (suc (suc i)) .radius
   after-is = go (decLt (suc i) (length (r .plan)))
     where
       go : Dec (suc i < length (r .plan)) → firstArc (drop (suc i) (r .plan)) ≡ elementOf r (suc (suc i)) .radius
-      go (yes h) = let a = arc-second h in no-arc-at (r .plan) (suc i) h (order .straight i straight h .is) ∙ arc-at (r .plan) (suc (suc i)) (a .within) (a .is)
+      go (yes h) = let a = order .bend i straight h in no-arc-at (r .plan) (suc i) h (order .straight i straight h .is) ∙ arc-at (r .plan) (suc (suc i)) (a .within) (a .is)
       go (no n) =
           let none : length (r .plan) ≤ suc i = omega arith in
           let past : length (r .plan) ≤ suc (suc i) = omega arith in

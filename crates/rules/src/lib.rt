@@ -1,4 +1,4 @@
-// Refusals 5 to 19 of an alignment: the rules are tried in their order, and the first item that breaks one is named.
+// Refusals 5 to 19 and 23 of an alignment: the rules are tried in their order, and the first item that breaks one is named.
 ghost use mathlib.Core.Path.{_≡_};
 ghost use mathlib.Core.Bool.{true};
 ghost use lib.ListN.{length};
@@ -24,10 +24,11 @@ use road::Tangent;
 use road::TangentRule;
 
 // The rules in the order in which they are tried.
-pub const ORDER: [Rule; 15] = [
+pub const ORDER: [Rule; 16] = [
     Rule::Element(ElementRule::PlanLength),
     Rule::OtherTotal,
     Rule::Element(ElementRule::Kinds),
+    Rule::Element(ElementRule::LinkedArcs),
     Rule::Element(ElementRule::LongStraight),
     Rule::ShortStraight,
     Rule::Element(ElementRule::TightArc),
@@ -114,6 +115,7 @@ fn is_plan_kept(a: Alignment, l: Limits) -> bool
     if 0 < a.element_count {
         e = elements[0];
     }
+    let mut earlier = blank;
     let mut before = blank;
     let mut end: u64 = 0;
     let mut i: usize = 0;
@@ -123,9 +125,10 @@ fn is_plan_kept(a: Alignment, l: Limits) -> bool
             after = elements[i + 1];
         }
         end = end + e.length as u64;
-        if plan_rules::is_any_broken(l, i, a.element_count, end, before, e, after) {
+        if plan_rules::is_any_broken(l, i, a.element_count, end, earlier, before, e, after) {
             return false;
         }
+        earlier = before;
         before = e;
         e = after;
         i = i + 1;
@@ -148,6 +151,7 @@ fn first_element(a: Alignment, l: Limits, rule: ElementRule) -> Found
     if 0 < a.element_count {
         e = elements[0];
     }
+    let mut earlier = blank;
     let mut before = blank;
     let mut end: u64 = 0;
     let mut i: usize = 0;
@@ -157,9 +161,10 @@ fn first_element(a: Alignment, l: Limits, rule: ElementRule) -> Found
             after = elements[i + 1];
         }
         end = end + e.length as u64;
-        if plan_rules::is_broken(rule, l, i, a.element_count, end, before, e, after) {
+        if plan_rules::is_broken(rule, l, i, a.element_count, end, earlier, before, e, after) {
             return Found::At(i);
         }
+        earlier = before;
         before = e;
         e = after;
         i = i + 1;
@@ -179,7 +184,7 @@ fn first_in_plan(a: Alignment, l: Limits, kept: bool, rule: ElementRule) -> Foun
     }
 }
 
-// 9, where the kinds run as they must: the arc after a straight is the second element from it
+// 9, where the kinds run as they must: the nearest arc after a straight is the second element from it
 fn first_straight(a: Alignment, l: Limits) -> Found
     requires { ⌜ Counted a ⌝ ∗ ⌜ PlanOrder (roadIn a) ⌝ }
     ensures { λ r. ⌜ asOption r ≡ firstBroken ruled.ShortStraight (asLimits l) (roadIn a) ⌝ }
@@ -354,7 +359,7 @@ pub fn judge(a: Alignment, l: Limits) -> Verdict
     let whole = plan_length(a);
     let kept = is_plan_kept(a, l);
     let mut k: usize = 0;
-    while k < 15 {
+    while k < 16 {
         let rule = ORDER[k];
         match first_of(a, l, whole, kept, rule) {
             Found::At(place) => {

@@ -14,10 +14,10 @@ use Rattle.rules.proofs.first_element.Statement.{statement}
 use Rattle.rules.proofs.first_element.Tie as tie
 
 abbrev Inv-loop : tie.InvT-loop
-Inv-loop a l rule elements places blank e₀ before₀ end₀ i₀ e before end i = Around rule (asLimits l) (roadIn a) (a .«element_count» + 1) places i end before e
+Inv-loop a l rule elements places blank e₀ earlier₀ before₀ end₀ i₀ e earlier before end i = Around rule (asLimits l) (roadIn a) (a .«element_count» + 1) places i end earlier before e
 
 abbrev μ-loop : tie.MeasureT-loop
-μ-loop a l rule elements places blank e₀ before₀ end₀ i₀ e before end i = places - i
+μ-loop a l rule elements places blank e₀ earlier₀ before₀ end₀ i₀ e earlier before end i = places - i
 
 count : (c : tie.Start Inv-loop μ-loop) → c .args .a .«element_count» ≡ length (roadIn (c .args .a) .plan)
 count c = sym (plan-count (c .args .a) (c .pre) (search (needs, unmapped)))

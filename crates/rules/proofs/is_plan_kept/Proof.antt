@@ -16,10 +16,10 @@ use Rattle.rules.proofs.is_plan_kept.Statement.{statement}
 use Rattle.rules.proofs.is_plan_kept.Tie as tie
 
 abbrev Inv-loop : tie.InvT-loop
-Inv-loop a l elements blank e₀ before₀ end₀ i₀ e before end i = (a .«element_count» ≤ 200) × (i ≤ a .«element_count» + 1) × Clear (asLimits l) (roadIn a) i end before e
+Inv-loop a l elements blank e₀ earlier₀ before₀ end₀ i₀ e earlier before end i = (a .«element_count» ≤ 200) × (i ≤ a .«element_count» + 1) × Clear (asLimits l) (roadIn a) i end earlier before e
 
 abbrev μ-loop : tie.MeasureT-loop
-μ-loop a l elements blank e₀ before₀ end₀ i₀ e before end i = a .«element_count» + 1 - i
+μ-loop a l elements blank e₀ earlier₀ before₀ end₀ i₀ e earlier before end i = a .«element_count» + 1 - i
 
 count : (c : tie.Start Inv-loop μ-loop) → c .args .a .«element_count» ≡ length (roadIn (c .args .a) .plan)
 count c = sym (plan-count (c .args .a) (c .pre) (search (needs, unmapped)))
@@ -49,7 +49,7 @@ loop-again c =
     let d = c .before in
     let v = at d .loop in
     let t = d .before .before .before .before .if2 .taken in
-    (v .inv .0, omega arith, clear-on (v .inv .2) (let n = v .inv .0 in omega arith) (omega arith) (count (begun d)) (next-is d) (none-broken (asLimits (begun d .args .l)) (record { place = v .i; count = begun d .args .a .«element_count»; end = _; before = v .before; element = v .e; after = d .before .before .if3 .after }) (sym (d .is-any-broken .ensures) ∙ c .if4 .left)))
+    (v .inv .0, omega arith, clear-on (v .inv .2) (let n = v .inv .0 in omega arith) (omega arith) (count (begun d)) (next-is d) (none-broken (asLimits (begun d .args .l)) (record { place = v .i; count = begun d .args .a .«element_count»; end = _; earlier = v .earlier; before = v .before; element = v .e; after = d .before .before .if3 .after }) (sym (d .is-any-broken .ensures) ∙ c .if4 .left)))
 
 returns-2 : tie.Need-returns-2 Inv-loop μ-loop
 returns-2 c e = let l = c .before .before in clear-kept (l .loop .inv .2) (omega (arith, count (l .before .before .before .before), c .if2 .left))

@@ -14,7 +14,7 @@ abbrev Inv-loop : tie.InvT-loop
 Inv-loop a l whole kept k₀ k = Trying (asLimits l) (roadIn a) k
 
 abbrev μ-loop : tie.MeasureT-loop
-μ-loop a l whole kept k₀ k = 15 - k
+μ-loop a l whole kept k₀ k = 16 - k
 
 first-of-requires : tie.Need-first-of-requires Inv-loop μ-loop
 first-of-requires c κs = let p = c .before .before .before in (p .before .before .pre, (tried (c .before .before .loop .inv) (c .before .loop-test .taken), (p .is-plan-kept .ensures, p .before .plan-length .ensures)))
