@@ -1,4 +1,4 @@
--- Curvature: at an element's end both elements have one curvature, and a clothoid runs evenly from 0 to its arc's, or back.
+-- Curvature: at an element's end both elements have one curvature, and a clothoid runs evenly from 0 to its arc's, or back, or from one arc's to another's.
 use mathlib.Core.Path.{_≡_, refl, sym, ap, ap₂, _∙_, subst}
 use mathlib.Core.Bool.{Bool, true, false}
 use mathlib.Core.List.{[], _∷_}
@@ -14,8 +14,9 @@ use Rattle.integers.specs.Fraction.{Frac, _÷_, whole, _+ᶠ_, _-ᶠ_, _×ᶠ_,
 use Rattle.integers.specs.Values.{positive-mul, same-value, other-way, _then_}
 use Rattle.road.specs.Base.{if_then_else_}
 use Rattle.road.specs.File.{Road}
-use Rattle.road.specs.Exact.{blankElement, elementOf, elementStart, elementAt, isStraight, isArc, arcCurvature, endCurvature, startCurvature, clothoidCurvature, curvatureOn, curvature, from_to_}
-use Rattle.laws_of_acceptance.specs.PlanOrder.{Stands, BesideClothoid, entry, exit, BesideArc, between, PlanOrder, entry-of, exit-of}
+use Rattle.road.specs.Exact.{blankElement, elementOf, elementStart, elementAt, isStraight, isArc, isClothoid, arcCurvature, endCurvature, startCurvature, clothoidCurvature, curvatureOn, curvature, from_to_}
+use Rattle.road.specs.Rules.{elementBefore}
+use Rattle.laws_of_acceptance.specs.PlanOrder.{Stands, PlanOrder}
 use Rattle.laws_of_acceptance.specs.Positive.{Accepted, plan-ordered}
 use Rattle.laws_of_acceptance.specs.Lists.{element-step}
 use Rattle.laws_of_lists.specs.Tests.{true-false}
@@ -30,7 +31,7 @@ pub record OnElement (r : Road) (i s : ℕ) : Type 0 where
   pub high : s ≤ elementStart r (suc i)
 
 -- ---- evenly from S to E over a length L, at u past its start
-abbrev evenly : (S E : Frac) (u : ℤ) (L : ℕ) → Frac
+abbrev pub evenly : (S E : Frac) (u : ℤ) (L : ℕ) → Frac
 evenly S E u L = S +ᶠ (E -ᶠ S) ×ᶠ (u ÷ L)
 
 module _ (S E : Frac) (u : ℤ) (L : ℕ) (pS : 0 < S .den) (pE : 0 < E .den) (pL : 0 < L) where
@@ -84,13 +85,17 @@ module _ (r : Road) (i : ℕ) where
   unfolding curvatureOn
   on-clothoid s e = ap (λ (k : ℕ). if eqb k 0 then whole (pos 0) else if eqb k 1 then arcCurvature (elementOf r i .radius) else clothoidCurvature r i s) e
 
-  end-straight : elementOf r i .kind ≡ 0 → endCurvature r i ≡ whole (pos 0)
+  end-zero : isArc (elementOf r i) ≡ false → endCurvature r i ≡ whole (pos 0)
   unfolding endCurvature
-  end-straight e = ap (λ (k : ℕ). if eqb k 1 then arcCurvature (elementOf r i .radius) else whole (pos 0)) e
+  end-zero e = rw e
 
-  end-arc : elementOf r i .kind ≡ 1 → endCurvature r i ≡ arcCurvature (elementOf r i .radius)
+  end-arc : isArc (elementOf r i) ≡ true → endCurvature r i ≡ arcCurvature (elementOf r i .radius)
   unfolding endCurvature
-  end-arc e = ap (λ (k : ℕ). if eqb k 1 then arcCurvature (elementOf r i .radius) else whole (pos 0)) e
+  end-arc e = rw e
+
+start-zero : (r : Road) (i : ℕ) → isArc (elementBefore r i) ≡ false → startCurvature r i ≡ whole (pos 0)
+start-zero r zero e = refl
+start-zero r (suc i) e = end-zero r i e
 
 -- ---- denominators
 arc-curvature-positive : (radius : ℤ) → 0 < natAbs radius → 0 < arcCurvature radius .den
@@ -156,38 +161,36 @@ module _ {r : Road} (A : Accepted r) where
       evenly-end (startCurvature r i) (endCurvature r (suc i)) (from elementStart r i to s) (elementOf r i .length) (start-positive i) (end-positive (suc i)) (element-in A i h .length .low)
       (ahead-by (elementStart r i) s (elementOf r i .length) (e ∙ element-step r i))
 
-  -- ---- where two elements meet
-  -- a straight or an arc before a clothoid
-  before-clothoid : (i s : ℕ) → suc i < length (r .plan) → s ≡ elementStart r (suc i) → elementOf r (suc i) .kind ≡ 2 → curvatureOn r i s ≡ endCurvature r i → curvatureOn r i s ≈ᶠ curvatureOn r (suc i) s
-  before-clothoid i s h e k p =
-      other-way (same-value (element-positive (suc i) s h) (on-clothoid r (suc i) s k)
-      then clothoid-start (suc i) s h e
-      then same-value (end-positive i) (sym p))
+  -- ---- where two elements meet: a clothoid has there what its neighbour gives
+  clothoid-before : (i s : ℕ) → suc i < length (r .plan) → s ≡ elementStart r (suc i) → elementOf r i .kind ≡ 2 → curvatureOn r i s ≈ᶠ endCurvature r (suc i)
+  clothoid-before i s h e k = same-value (element-positive i s (omega arith)) (on-clothoid r i s k) then clothoid-end i s (omega arith) e
 
-  -- a clothoid before a straight or an arc
-  after-clothoid : (i s : ℕ) → suc i < length (r .plan) → s ≡ elementStart r (suc i) → elementOf r i .kind ≡ 2 → curvatureOn r (suc i) s ≡ endCurvature r (suc i) → curvatureOn r i s ≈ᶠ curvatureOn r (suc i) s
-  after-clothoid i s h e k p =
-      same-value (element-positive i s (omega arith)) (on-clothoid r i s k)
-      then clothoid-end i s (omega arith) e
-      then same-value (end-positive (suc i)) (sym p)
+  clothoid-after : (i s : ℕ) → suc i < length (r .plan) → s ≡ elementStart r (suc i) → elementOf r (suc i) .kind ≡ 2 → endCurvature r i ≈ᶠ curvatureOn r (suc i) s
+  clothoid-after i s h e k = other-way (same-value (element-positive (suc i) s h) (on-clothoid r (suc i) s k) then clothoid-start (suc i) s h e)
 
   pub elements-meet : (i s : ℕ) → suc i < length (r .plan) → s ≡ elementStart r (suc i) → curvatureOn r i s ≈ᶠ curvatureOn r (suc i) s
   elements-meet i s h e = go (elementOf r i .kind) refl
     where
-      into-clothoid : Stands r 2 (suc i) → curvatureOn r i s ≡ endCurvature r i → curvatureOn r i s ≈ᶠ curvatureOn r (suc i) s
-      into-clothoid c = before-clothoid i s h e (c .is)
+      -- a straight's and an arc's own
+      own : (j k : ℕ) → elementOf r j .kind ≡ k → k < 2 → curvatureOn r j s ≡ endCurvature r j
+      own j zero k l = on-straight r j s k ∙ sym (end-zero r j (rw k))
+      own j (suc zero) k l = on-arc r j s k ∙ sym (end-arc r j (rw k))
+      own j (suc (suc m)) k l = absurd (omega arith)
 
-      beside : elementOf r i .kind ≡ 2 → BesideClothoid r i → curvatureOn r i s ≈ᶠ curvatureOn r (suc i) s
-      beside k (entry _ _ _ a) = after-clothoid i s h e k (on-arc r (suc i) s (a .is) ∙ sym (end-arc r (suc i) (a .is)))
-      beside k (exit _ _ _ z) = after-clothoid i s h e k (on-straight r (suc i) s (z .is) ∙ sym (end-straight r (suc i) (z .is)))
+      into : Stands r 2 (suc i) → (k : ℕ) → elementOf r i .kind ≡ k → k < 2 → curvatureOn r i s ≈ᶠ curvatureOn r (suc i) s
+      into c k q l = same-value (element-positive i s (omega arith)) (own i k q l) then clothoid-after i s h e (c .is)
 
-      between-them : elementOf r i .kind ≡ 1 → BesideArc r i → curvatureOn r i s ≈ᶠ curvatureOn r (suc i) s
-      between-them k (between _ _ _ c) = into-clothoid c (on-arc r i s k ∙ sym (end-arc r i k))
+      -- 0 where two clothoids meet
+      behind : elementOf r i .kind ≡ 2 → (k : ℕ) → elementOf r (suc i) .kind ≡ k → curvatureOn r i s ≈ᶠ curvatureOn r (suc i) s
+      behind k zero q = clothoid-before i s h e k then same-value (end-positive (suc i)) (sym (own (suc i) 0 q (omega arith)))
+      behind k (suc zero) q = clothoid-before i s h e k then same-value (end-positive (suc i)) (sym (own (suc i) 1 q (omega arith)))
+      behind k (suc (suc zero)) q = clothoid-before i s h e k then same-value (end-positive (suc i)) (end-zero r (suc i) (rw q) ∙ sym (end-zero r i (rw k))) then clothoid-after i s h e q
+      behind k (suc (suc (suc m))) q = absurd (omega (arith, element-in A (suc i) h .kind .high))
 
       go : (k : ℕ) → elementOf r i .kind ≡ k → curvatureOn r i s ≈ᶠ curvatureOn r (suc i) s
-      go zero k = into-clothoid (order .straight i (record { within = omega arith; is = k }) h) (on-straight r i s k ∙ sym (end-straight r i k))
-      go (suc zero) k = between-them k (order .arc i (record { within = omega arith; is = k }))
-      go (suc (suc zero)) k = beside k (order .clothoid i (record { within = omega arith; is = k }))
+      go zero k = into (order .straight i (record { within = omega arith; is = k }) h) 0 k (omega arith)
+      go (suc zero) k = into (order .arc i (record { within = omega arith; is = k })) 1 k (omega arith)
+      go (suc (suc zero)) k = behind k (elementOf r (suc i) .kind) refl
       go (suc (suc (suc m))) k = absurd (omega (arith, element-in A i (omega arith) .kind .high))
 
   -- the exact curvature at a station is that of any element that has the station
@@ -209,56 +212,36 @@ module _ {r : Road} (A : Accepted r) where
   pub arc-curvature : (i s : ℕ) → OnElement r i s → isArc (elementOf r i) ≡ true → curvature r s ≈ᶠ arcCurvature (elementOf r i .radius)
   arc-curvature i s o e = curvature-on i s o then same-value (element-positive i s (o .place)) (on-arc r i s (eqb-true (elementOf r i .kind) 1 e))
 
-  -- ---- "on a clothoid its arc's 10⁹/R × distance from the clothoid's straight end / clothoid length"
-  arc-stands : (i : ℕ) → isArc (elementOf r i) ≡ true → Stands r 1 i
-  arc-stands i e = record { within = arc-within r i e; is = eqb-true (elementOf r i .kind) 1 e }
+  -- ---- "A clothoid therefore carries the curvature at both of its ends"
+  module _ (i s : ℕ) (o : OnElement r i s) (c : isClothoid (elementOf r i) ≡ true) where
+    by-ends : {S E : Frac} → startCurvature r i ≡ S → endCurvature r (suc i) ≡ E → curvature r s ≈ᶠ evenly S E (from elementStart r i to s) (elementOf r i .length)
+    unfolding clothoidCurvature
+    by-ends p q =
+        curvature-on i s o
+        then same-value (element-positive i s (o .place)) (on-clothoid r i s (eqb-true (elementOf r i .kind) 2 c) ∙ ap₂ (λ (x y : Frac). evenly x y (from elementStart r i to s) (elementOf r i .length)) p q)
 
-  -- a clothoid whose arc follows it
-  pub clothoid-in : (i s : ℕ) → OnElement r i s → isArc (elementOf r (suc i)) ≡ true → curvature r s ≈ᶠ arcCurvature (elementOf r (suc i) .radius) ×ᶠ ((from elementStart r i to s) ÷ (elementOf r i .length))
-  unfolding clothoidCurvature
-  clothoid-in i s o e =
-      let a = arc-stands (suc i) e in
-      let w = entry-of order i a in
-      let h = o .place in
-      let zero-start : startCurvature r i ≡ whole (pos 0) = subst (λ (k : ℕ). startCurvature r k ≡ whole (pos 0)) (sym (w .next)) (end-straight r (w .place) (w .straight .is)) in
-      let q : clothoidCurvature r i s ≡ evenly (whole (pos 0)) (arcCurvature (elementOf r (suc i) .radius)) (from elementStart r i to s) (elementOf r i .length) =
-      ap₂ (λ (x y : Frac). evenly x y (from elementStart r i to s) (elementOf r i .length)) zero-start (end-arc r (suc i) (a .is)) in
-      curvature-on i s o
-      then same-value (element-positive i s h) (on-clothoid r i s (w .clothoid .is) ∙ q)
-      then evenly-in (arcCurvature (elementOf r (suc i) .radius)) (from elementStart r i to s) (elementOf r i .length) (arc-positive (suc i) (a .within) e) (element-in A i h .length .low)
+    -- "on a clothoid its arc's 10⁹/R × distance from the clothoid's straight end / clothoid length": the arc follows it, and none stands before it
+    pub clothoid-in : isArc (elementBefore r i) ≡ false → isArc (elementOf r (suc i)) ≡ true → curvature r s ≈ᶠ arcCurvature (elementOf r (suc i) .radius) ×ᶠ ((from elementStart r i to s) ÷ (elementOf r i .length))
+    clothoid-in n e =
+        by-ends (start-zero r i n) (end-arc r (suc i) e)
+        then evenly-in (arcCurvature (elementOf r (suc i) .radius)) (from elementStart r i to s) (elementOf r i .length) (arc-positive (suc i) (arc-within r (suc i) e) e) (element-in A i (o .place) .length .low)
 
-  -- a clothoid whose arc stands before it
-  pub clothoid-out : (i s : ℕ) → OnElement r (suc i) s → isArc (elementOf r i) ≡ true → curvature r s ≈ᶠ arcCurvature (elementOf r i .radius) ×ᶠ ((from s to elementStart r (suc (suc i))) ÷ (elementOf r (suc i) .length))
-  unfolding clothoidCurvature
-  clothoid-out i s o e =
-      let a = arc-stands i e in
-      let w = exit-of order i a in
-      let h = o .place in
-      let q : clothoidCurvature r (suc i) s ≡ evenly (arcCurvature (elementOf r i .radius)) (whole (pos 0)) (from elementStart r (suc i) to s) (elementOf r (suc i) .length) =
-      ap₂ (λ (x y : Frac). evenly x y (from elementStart r (suc i) to s) (elementOf r (suc i) .length)) (end-arc r i (a .is)) (end-straight r (suc (suc i)) (w .straight .is)) in
-      curvature-on (suc i) s o
-      then same-value (element-positive (suc i) s h) (on-clothoid r (suc i) s (w .clothoid .is) ∙ q)
-      then evenly-out (arcCurvature (elementOf r i .radius)) (from elementStart r (suc i) to s) (from s to elementStart r (suc (suc i))) (elementOf r (suc i) .length) (arc-positive i (a .within) e) (element-in A (suc i) h .length .low)
+  -- the arc stands before it, and none follows it
+  pub clothoid-out : (i s : ℕ) → OnElement r (suc i) s → isClothoid (elementOf r (suc i)) ≡ true → isArc (elementOf r i) ≡ true → isArc (elementOf r (suc (suc i))) ≡ false
+      → curvature r s ≈ᶠ arcCurvature (elementOf r i .radius) ×ᶠ ((from s to elementStart r (suc (suc i))) ÷ (elementOf r (suc i) .length))
+  clothoid-out i s o c e n =
+      by-ends (suc i) s o c (end-arc r i e) (end-zero r (suc (suc i)) n)
+      then evenly-out (arcCurvature (elementOf r i .radius)) (from elementStart r (suc i) to s) (from s to elementStart r (suc (suc i))) (elementOf r (suc i) .length) (arc-positive i (arc-within r i e) e) (element-in A (suc i) (o .place) .length .low)
       (from-rest (elementStart r (suc i)) s (elementOf r (suc i) .length) (elementStart r (suc (suc i))) (element-step r (suc i)))
 
-  -- 0 at its straight end, its arc's at the other
-  start-on : (i : ℕ) → i < length (r .plan) → OnElement r i (elementStart r i)
-  start-on i h = record { place = h; low = omega arith; high = omega (arith, element-step r i) }
+  -- an egg: "its curvature runs evenly from one to the other"
+  pub egg-curvature : (i s : ℕ) → OnElement r (suc i) s → isClothoid (elementOf r (suc i)) ≡ true → isArc (elementOf r i) ≡ true → isArc (elementOf r (suc (suc i))) ≡ true
+      → curvature r s ≈ᶠ evenly (arcCurvature (elementOf r i .radius)) (arcCurvature (elementOf r (suc (suc i)) .radius)) (from elementStart r (suc i) to s) (elementOf r (suc i) .length)
+  egg-curvature i s o c e f = by-ends (suc i) s o c (end-arc r i e) (end-arc r (suc (suc i)) f)
 
-  end-on : (i : ℕ) → i < length (r .plan) → OnElement r i (elementStart r (suc i))
-  end-on i h = record { place = h; low = omega (arith, element-step r i); high = omega arith }
-
-  pub entry-start : (i : ℕ) → isArc (elementOf r (suc i)) ≡ true → curvature r (elementStart r i) ≈ᶠ whole (pos 0)
-  entry-start i e =
-      let w = entry-of order i (arc-stands (suc i) e) in
-      let z = w .straight in
-      subst (λ (k : ℕ). curvature r (elementStart r k) ≈ᶠ whole (pos 0)) (sym (w .next)) (straight-curvature (w .place) (elementStart r (suc (w .place))) (end-on (w .place) (z .within)) (eq-eqb _ 0 (z .is)))
-
-  pub entry-end : (i : ℕ) → isArc (elementOf r (suc i)) ≡ true → curvature r (elementStart r (suc i)) ≈ᶠ arcCurvature (elementOf r (suc i) .radius)
-  entry-end i e = arc-curvature (suc i) (elementStart r (suc i)) (start-on (suc i) (arc-within r (suc i) e)) e
-
-  pub exit-start : (i : ℕ) → isArc (elementOf r i) ≡ true → curvature r (elementStart r (suc i)) ≈ᶠ arcCurvature (elementOf r i .radius)
-  exit-start i e = arc-curvature i (elementStart r (suc i)) (end-on i (arc-within r i e)) e
-
-  pub exit-end : (i : ℕ) → isArc (elementOf r i) ≡ true → curvature r (elementStart r (suc (suc i))) ≈ᶠ whole (pos 0)
-  exit-end i e = let z = exit-of order i (arc-stands i e) .straight in straight-curvature (suc (suc i)) (elementStart r (suc (suc i))) (start-on (suc (suc i)) (z .within)) (eq-eqb _ 0 (z .is))
+  -- a pair: "with curvature 0 where they meet"
+  pub pair-meets : (i : ℕ) → suc i < length (r .plan) → isClothoid (elementOf r i) ≡ true → isClothoid (elementOf r (suc i)) ≡ true → curvature r (elementStart r (suc i)) ≈ᶠ whole (pos 0)
+  pair-meets i h c d =
+      curvature-on i (elementStart r (suc i)) (record { place = omega arith; low = omega (arith, element-step r i); high = omega arith })
+      then clothoid-before i (elementStart r (suc i)) h refl (eqb-true (elementOf r i .kind) 2 c)
+      then same-value (end-positive (suc i)) (end-zero r (suc i) (rw (eqb-true (elementOf r (suc i) .kind) 2 d)))
