@@ -24,9 +24,9 @@ pub fn rule_book(contract: Contract) -> RuleBook {
 /// What refusal 12 asks of a clothoid.
 #[derive(Clone, Copy, Debug, PartialEq, Eq)]
 pub enum LeastClothoid {
-    /// A min: its square is the least product of length and radius.
+    /// A min: its square is the least A squared.
     Parameter(i128),
-    /// The least length of the old handbook, whatever the radius.
+    /// The least length of the old handbook, whatever the radii.
     Length(i128),
 }
 

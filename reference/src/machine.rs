@@ -25,7 +25,7 @@ pub enum PartAnswer {
     Rows(usize, Option<i128>),
 }
 
-/// The refusals of the file, 1 to 19 and 22.
+/// The refusals of the file, 1 to 19, 22 and 23.
 pub fn accept(file: &[u8]) -> Result<Alignment, Refusal> {
     let alignment = read(file)?;
     rules::judge(&alignment)?;

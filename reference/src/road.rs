@@ -27,19 +27,55 @@ pub fn tangent_starts(alignment: &Alignment) -> Vec<i128> {
     running_sums(alignment.tangents.iter().map(|tangent| tangent.length))
 }
 
-/// The arc beside a clothoid.
-pub fn arc_of_clothoid(alignment: &Alignment, clothoid: usize) -> Element {
-    let elements = &alignment.elements;
-    if arc_follows(alignment, clothoid) {
-        elements[clothoid + 1]
-    } else {
-        elements[clothoid - 1]
-    }
+/// An element of a kind at a place, where there is one.
+fn of_kind(alignment: &Alignment, place: Option<usize>, kind: Kind) -> Option<Element> {
+    let element = *alignment.elements.get(place?)?;
+    (element.kind == kind).then_some(element)
 }
 
-fn arc_follows(alignment: &Alignment, clothoid: usize) -> bool {
-    let next = alignment.elements.get(clothoid + 1);
-    next.is_some_and(|element| element.kind == Kind::Arc)
+/// The arc that an element directly follows.
+pub fn arc_before(alignment: &Alignment, place: usize) -> Option<Element> {
+    of_kind(alignment, place.checked_sub(1), Kind::Arc)
+}
+
+/// The arc that directly follows an element.
+pub fn arc_after(alignment: &Alignment, place: usize) -> Option<Element> {
+    of_kind(alignment, place.checked_add(1), Kind::Arc)
+}
+
+/// The arcs of an egg: "One clothoid may stand between two arcs"; none for any other clothoid.
+pub fn arcs_of_egg(alignment: &Alignment, clothoid: usize) -> Option<(Element, Element)> {
+    Some((
+        arc_before(alignment, clothoid)?,
+        arc_after(alignment, clothoid)?,
+    ))
+}
+
+/// The first clothoid of the pair that a clothoid belongs to: "Two clothoids may now follow one another between
+/// arcs"; none for any other clothoid. The second one comes directly after it.
+pub fn pair_of_clothoid(alignment: &Alignment, clothoid: usize) -> Option<usize> {
+    let is_clothoid = |place| of_kind(alignment, place, Kind::Clothoid).is_some();
+    if is_clothoid(clothoid.checked_add(1)) {
+        return Some(clothoid);
+    }
+    clothoid
+        .checked_sub(1)
+        .filter(|&first| is_clothoid(Some(first)))
+}
+
+/// The arcs around a pair of clothoids, given by its first one.
+pub fn arcs_of_pair(alignment: &Alignment, first: usize) -> Option<(Element, Element)> {
+    Some((
+        arc_before(alignment, first)?,
+        arc_after(alignment, first + 1)?,
+    ))
+}
+
+/// A clothoid's own arc, directly beside it; of an egg, which has two, the one that follows.
+pub fn arc_of_clothoid(alignment: &Alignment, clothoid: usize) -> Element {
+    arc_after(alignment, clothoid)
+        .or(arc_before(alignment, clothoid))
+        .expect("an arc beside every clothoid")
 }
 
 /// The vertex whose vertical curve, of h > 0, a station lies in, ends included.
@@ -147,27 +183,39 @@ fn printed_edge(alignment: &Alignment, station: i128, side: fn(&CrossfallPoint) 
     height(alignment, station).rounded() + drop(alignment, station, side).rounded()
 }
 
-/// "Curvature is 0 on straights, 10^9/R on arcs, and on a clothoid its arc's 10^9/R x distance
-/// from the clothoid's straight end / clothoid length."
+/// "10^9/R on arcs", and 0 where there is none.
+fn curvature_of(arc: Option<Element>) -> Fraction {
+    match arc {
+        Some(arc) => Fraction::new(1_000_000_000, arc.radius),
+        None => Fraction::whole(0),
+    }
+}
+
+/// "A clothoid therefore carries the curvature at both of its ends": that of the arc there, and 0 where it meets
+/// a straight or the other clothoid of its pair. A straight and an arc have one curvature throughout.
+pub fn curvature_at_ends(alignment: &Alignment, place: usize) -> (Fraction, Fraction) {
+    let element = alignment.elements[place];
+    let (before, after) = match element.kind {
+        Kind::Straight => (None, None),
+        Kind::Arc => (Some(element), Some(element)),
+        Kind::Clothoid => (arc_before(alignment, place), arc_after(alignment, place)),
+    };
+    (curvature_of(before), curvature_of(after))
+}
+
+/// "Curvature is 0 on straights, 10^9/R on arcs", and on a clothoid it "runs evenly from one to the other" of the
+/// curvatures at its ends.
 pub fn curvature(alignment: &Alignment, station: i128) -> Fraction {
     let starts = element_starts(alignment);
     let place = (0..alignment.elements.len())
         .find(|&place| station <= starts[place + 1])
         .expect("a station not beyond T");
-    let element = alignment.elements[place];
-    match element.kind {
-        Kind::Straight => Fraction::whole(0),
-        Kind::Arc => Fraction::new(1_000_000_000, element.radius),
-        Kind::Clothoid => {
-            let radius = arc_of_clothoid(alignment, place).radius;
-            let distance = if arc_follows(alignment, place) {
-                station - starts[place]
-            } else {
-                starts[place + 1] - station
-            };
-            Fraction::new(1_000_000_000 * distance, radius * element.length)
-        }
-    }
+    let length = alignment.elements[place].length;
+    let (from_start, to_end) = (station - starts[place], starts[place + 1] - station);
+    let (first, last) = curvature_at_ends(alignment, place);
+    let from_first = first.times(Fraction::new(to_end, length)).lowest_terms();
+    let from_last = last.times(Fraction::new(from_start, length)).lowest_terms();
+    from_first.plus(from_last).lowest_terms()
 }
 
 /// "station, axis height, grade, left and right crossfall, left and right edge height,

@@ -1,4 +1,4 @@
-//! "Numbers that turn a file away", refusals 5 to 19.
+//! "Numbers that turn a file away", refusals 5 to 19 and 23.
 //!
 //! Each function gives the items that break its rule, in order. "The lowest refusal wins", so a
 //! rule is only asked where those that it takes for granted hold.
@@ -7,6 +7,9 @@ use crate::file::{Alignment, CrossfallPoint, Element, Kind, Refusal};
 use crate::fraction::Fraction;
 use crate::limits::{limits, LeastClothoid, Limits};
 use crate::road;
+
+/// The greatest radius of an arc beside an egg, unsigned.
+pub const EGG_RADIUS_MAX: i128 = 1_000_000;
 
 struct Rule {
     number: i128,
@@ -27,10 +30,12 @@ const fn rule(
     }
 }
 
-const RULES: [Rule; 15] = [
+/// In the order in which they are asked: 23 comes "right after 7".
+const RULES: [Rule; 16] = [
     rule(5, &[], plan_too_long),
     rule(6, &[], tangents_do_not_add_up),
     rule(7, &[], wrong_kind),
+    rule(23, &[7], wrong_egg_or_pair),
     rule(8, &[], straight_too_long),
     rule(9, &[7], straight_too_short),
     rule(10, &[], radius_too_small),
@@ -45,7 +50,7 @@ const RULES: [Rule; 15] = [
     rule(19, &[7, 16], wrong_crossfall_on_arc),
 ];
 
-/// "from 5 on, the lowest refusal wins, then the first item"
+/// "from 5 on, the lowest refusal wins, then the first item"; 23 is asked between 7 and 8.
 pub fn judge(alignment: &Alignment) -> Result<(), Refusal> {
     let limits = limits(alignment);
     for rule in &RULES {
@@ -134,24 +139,58 @@ fn tangents_do_not_add_up(alignment: &Alignment, _: &Limits) -> Vec<usize> {
     places(1, |_| sum != alignment.total_length())
 }
 
-/// Refusal 7: "The kinds do not run 0, then any count of 2, 1, 2, 0 (place: first wrong element,
-/// or the plan count where it stops short)."
+/// Refusal 7 "takes the wider pattern, still beginning and ending with a straight; its place is the first element
+/// whose kind no allowed order, however long, can have after the kinds before it, or the plan count where it stops
+/// short."
 fn wrong_kind(alignment: &Alignment, _: &Limits) -> Vec<usize> {
     let kinds: Vec<Kind> = alignment.elements.iter().map(|e| e.kind).collect();
-    for (place, kind) in kinds.iter().enumerate() {
-        let right = match place % 4 {
-            0 => Kind::Straight,
-            2 => Kind::Arc,
-            _ => Kind::Clothoid,
-        };
-        if *kind != right {
-            return vec![place];
-        }
+    let wrong = |&place: &usize| !kinds_after(&kinds[..place]).contains(&kinds[place]);
+    let first_wrong = (0..kinds.len()).find(wrong);
+    let stops_short = (kinds.last() != Some(&Kind::Straight)).then_some(kinds.len());
+    first_wrong.or(stops_short).into_iter().collect()
+}
+
+/// The kinds that may come next. Any order of these can be brought to an end with a straight.
+pub fn kinds_after(kinds: &[Kind]) -> &'static [Kind] {
+    match kinds {
+        // "beginning [..] with a straight"
+        [] => &[Kind::Straight],
+        [.., Kind::Straight | Kind::Arc] => &[Kind::Clothoid],
+        // A bend ends, "One clothoid may stand between two arcs", "Two clothoids may now follow one another".
+        [.., Kind::Arc, Kind::Clothoid] => &[Kind::Straight, Kind::Arc, Kind::Clothoid],
+        // The clothoid after a straight, and the second one of a pair: both lead to an arc.
+        [.., Kind::Clothoid] => &[Kind::Arc],
     }
-    match kinds.len() % 4 {
-        1 => Vec::new(),
-        _ => vec![kinds.len()],
-    }
+}
+
+/// Refusal 23: "An egg with equal radii, opposite turns or a radius, unsigned, over 1,000,000 mm, or a pair of
+/// clothoids between arcs of the same turn, is refused with 23 right after 7, its place being the clothoid, the
+/// second one of a pair."
+fn wrong_egg_or_pair(alignment: &Alignment, _: &Limits) -> Vec<usize> {
+    all_of_kind(alignment, Kind::Clothoid, |place, _| {
+        wrong_egg(alignment, place) || ends_wrong_pair(alignment, place)
+    })
+}
+
+/// "An egg with equal radii, opposite turns or a radius, unsigned, over 1,000,000 mm"
+fn wrong_egg(alignment: &Alignment, clothoid: usize) -> bool {
+    let Some((before, after)) = road::arcs_of_egg(alignment, clothoid) else {
+        return false;
+    };
+    let (first, second) = (before.radius.abs(), after.radius.abs());
+    first == second || !same_turn(&before, &after) || first.max(second) > EGG_RADIUS_MAX
+}
+
+/// The second clothoid of a pair "between arcs of the same turn".
+fn ends_wrong_pair(alignment: &Alignment, clothoid: usize) -> bool {
+    let is_second = |first: &usize| first + 1 == clothoid;
+    let pair = road::pair_of_clothoid(alignment, clothoid).filter(is_second);
+    let arcs = pair.and_then(|first| road::arcs_of_pair(alignment, first));
+    arcs.is_some_and(|(before, after)| same_turn(&before, &after))
+}
+
+fn same_turn(arc: &Element, other: &Element) -> bool {
+    arc.radius.signum() == other.radius.signum()
 }
 
 /// Refusal 8: "A straight is longer than straight max (place: element)."
@@ -165,7 +204,7 @@ fn straight_too_long(alignment: &Alignment, limits: &Limits) -> Vec<usize> {
 }
 
 /// Refusal 9: "A straight between bends of the same turn is shorter than straight min (place:
-/// element)."
+/// element)"; it "looks at the nearest arc on either side of a straight".
 fn straight_too_short(alignment: &Alignment, limits: &Limits) -> Vec<usize> {
     let Some(straight_min) = limits.straight_min else {
         return Vec::new();
@@ -175,13 +214,13 @@ fn straight_too_short(alignment: &Alignment, limits: &Limits) -> Vec<usize> {
     })
 }
 
-/// An arc on both sides, their radii of the same sign.
+/// An arc on both sides, however far, the nearest ones of the same turn.
 fn between_same_turns(alignment: &Alignment, straight: usize) -> bool {
     let is_arc = |element: &&Element| element.kind == Kind::Arc;
     let before = alignment.elements[..straight].iter().rfind(is_arc);
     let after = alignment.elements[straight..].iter().find(is_arc);
     match (before, after) {
-        (Some(before), Some(after)) => before.radius.signum() == after.radius.signum(),
+        (Some(before), Some(after)) => same_turn(before, after),
         _ => false,
     }
 }
@@ -203,13 +242,27 @@ fn arc_too_short(alignment: &Alignment, limits: &Limits) -> Vec<usize> {
 fn clothoid_too_short(alignment: &Alignment, limits: &Limits) -> Vec<usize> {
     all_of_kind(alignment, Kind::Clothoid, |place, clothoid| {
         match limits.clothoid {
-            LeastClothoid::Parameter(parameter) => {
-                let radius = road::arc_of_clothoid(alignment, place).radius;
-                clothoid.length * radius.abs() < parameter * parameter
-            }
+            LeastClothoid::Parameter(parameter) => below_parameter(alignment, place, parameter),
             LeastClothoid::Length(length) => clothoid.length < length,
         }
     })
+}
+
+/// A squared is below A min squared: length x radius, each clothoid of a pair with its own arc. "For the egg, A
+/// squared is length x R1 x R2 / |R1 - R2|, unsigned".
+fn below_parameter(alignment: &Alignment, clothoid: usize, parameter: i128) -> bool {
+    let length = alignment.elements[clothoid].length;
+    let least = parameter * parameter;
+    match road::arcs_of_egg(alignment, clothoid) {
+        Some((before, after)) => {
+            let (first, second) = (before.radius.abs(), after.radius.abs());
+            length * first * second < least * (first - second).abs()
+        }
+        None => {
+            let radius = road::arc_of_clothoid(alignment, clothoid).radius;
+            length * radius.abs() < least
+        }
+    }
 }
 
 /// Refusal 13: "A grade, unsigned, is over grade max (place: tangent)."
