@@ -3,7 +3,8 @@
 //! A stretch lies between two neighbouring joints (element ends, curve ends, vertices, crossfall
 //! points). In it the height is one quadratic, the other numbers are linear in the station. Each
 //! rounding is a floor with half a unit added; below zero the dividend is one less, so that an
-//! exact half goes away from zero. A bias keeps the dividend from being negative.
+//! exact half goes away from zero. A bias keeps the dividend from being negative. Curvature needs more
+//! than 64 bits: it is a sum in fixed point that goes on from row to row.
 
 use std::io::{self, Write};
 
@@ -190,12 +191,84 @@ impl<'a> ProfileCursor<'a> {
     }
 }
 
+/// The bits behind the point of a curvature in fixed point.
+const POINT: u32 = 96;
+const ONE: i128 = 1 << POINT;
+
+/// n / d in fixed point, rounded down and rounded up; n is below 2^60, n / d below 2^30.
+fn fixed(n: u64, d: u64) -> (i128, i128) {
+    let (n, d) = ((n as u128) << 64, d as u128);
+    let rest = (n % d) << (POINT - 64);
+    let down = ((n / d) << (POINT - 64)) + rest / d;
+    let up = down + (rest % d != 0) as u128;
+    (down as i128, up as i128)
+}
+
+/// Curvature, floor(start + slope × (s − begin)) in fixed point, half a unit being in the start.
+///
+/// For a right turn, start and slope are the exact ones rounded up. A distance is below 2^24, so the
+/// sum is too great by less than 2^−71. The exact sum is a whole number over 2 × R1 × R2 × length, on an
+/// egg below 2^65 and elsewhere less; so it is whole, or over 2^−65 below the next whole number, and
+/// both sums have the same floor.
+#[derive(Clone, Copy)]
+struct Curvature {
+    begin: i64,
+    start: i128,
+    slope: i128,
+}
+
+impl Curvature {
+    fn straight() -> Self {
+        Curvature {
+            begin: 0,
+            start: 0,
+            slope: 0,
+        }
+    }
+
+    /// Evenly from radius r1 to radius r2 of the same turn; one of them may be 0, for no curvature.
+    fn new(begin: i64, length: i64, r1: i32, r2: i32) -> Self {
+        const UNIT: u64 = 1_000_000_000;
+        let (a, b) = (r1.unsigned_abs() as u64, r2.unsigned_abs() as u64);
+        let length = length as u64;
+        let (down, up) = match (a, b) {
+            (0, r) | (r, 0) => fixed(UNIT, r * length),
+            _ if a == b => (0, 0),
+            _ => fixed(UNIT * a.abs_diff(b), a * b * length),
+        };
+        let tighter = a == 0 || (b != 0 && b < a);
+        let slope = if tighter { up } else { -down };
+        let at_begin = if a == 0 { 0 } else { fixed(UNIT, a).1 };
+        let start = at_begin + ONE / 2;
+        if r1 < 0 || r2 < 0 {
+            // −floor(n / ONE) = floor((ONE − 1 − n) / ONE)
+            Curvature {
+                begin,
+                start: ONE - 1 - start,
+                slope: -slope,
+            }
+        } else {
+            Curvature {
+                begin,
+                start,
+                slope,
+            }
+        }
+    }
+
+    /// The sum at s; beyond the element its lowest 128 bits.
+    fn sum(&self, s: i64) -> i128 {
+        let distance = (s - self.begin) as i128;
+        self.start.wrapping_add(self.slope.wrapping_mul(distance))
+    }
+}
+
 /// Walks along the plan elements.
 struct PlanCursor<'a> {
     road: &'a Alignment,
     element: usize,
     end: i64,
-    curvature: Linear,
+    curvature: Curvature,
 }
 
 impl<'a> PlanCursor<'a> {
@@ -205,7 +278,7 @@ impl<'a> PlanCursor<'a> {
             road,
             element: 0,
             end,
-            curvature: Linear::constant(0),
+            curvature: Curvature::straight(),
         }
     }
 
@@ -214,29 +287,18 @@ impl<'a> PlanCursor<'a> {
             let begin = self.end;
             self.element += 1;
             let i = self.element;
-            let e = &self.road.elements[i];
-            self.end += e.length as i64;
+            let elements = &self.road.elements;
+            let e = &elements[i];
+            let length = e.length as i64;
+            self.end += length;
             self.curvature = match e.kind {
-                ARC => {
-                    let radius = e.radius as i64;
-                    let value = 1_000_000_000 * radius.signum();
-                    Linear::new(0, value, 0, radius.abs(), 100_001)
-                }
+                ARC => Curvature::new(begin, length, e.radius, e.radius),
                 CLOTHOID => {
-                    let inward = i % 4 == 1;
-                    let arc = &self.road.elements[if inward { i + 1 } else { i - 1 }];
-                    let radius = arc.radius as i64;
-                    let sign = if inward {
-                        radius.signum()
-                    } else {
-                        -radius.signum()
-                    };
-                    let zero = if inward { begin } else { self.end };
-                    let divisor = radius.abs() * e.length as i64;
-                    let bias = 1_000_000_000 / radius.abs() + 1;
-                    Linear::new(zero, 0, sign * 1_000_000_000, divisor, bias)
+                    // A radius is 0 but on an arc.
+                    let (r1, r2) = (elements[i - 1].radius, elements[i + 1].radius);
+                    Curvature::new(begin, length, r1, r2)
                 }
-                _ => Linear::constant(0),
+                _ => Curvature::straight(),
             };
         }
     }
@@ -305,19 +367,18 @@ impl<'a> CrossfallCursor<'a> {
     }
 }
 
-/// All that the rows of one stretch need.
+/// All that the rows of one stretch need, but for the curvature.
 struct Stretch {
     profile: Profile,
     left: Side,
     right: Side,
-    curvature: Linear,
 }
 
 impl Stretch {
     /// # Safety
     /// `LINE_MAX` bytes from the pen's place may be written.
     #[inline(always)]
-    unsafe fn row(&self, pen: &mut Pen, s: i64) {
+    unsafe fn row(&self, pen: &mut Pen, s: i64, curvature: i128) {
         let height = self.profile.height(s);
         pen.plain(s as u32);
         pen.byte(b' ');
@@ -333,7 +394,7 @@ impl Stretch {
         pen.byte(b' ');
         pen.signed((height + self.right.drop.at(s)) as i32);
         pen.byte(b' ');
-        pen.signed(self.curvature.at(s) as i32);
+        pen.signed((curvature >> POINT) as i32);
         pen.byte(b'\n');
     }
 }
@@ -346,7 +407,7 @@ struct Output<'a, W: Write> {
 
 impl<W: Write> Output<'_, W> {
     #[inline(always)]
-    fn row(&mut self, stretch: &Stretch, s: i64) -> io::Result<()> {
+    fn row(&mut self, stretch: &Stretch, s: i64, curvature: i128) -> io::Result<()> {
         if BUFFER - self.used < LINE_MAX {
             self.flush()?;
         }
@@ -354,7 +415,7 @@ impl<W: Write> Output<'_, W> {
         // SAFETY: used + LINE_MAX is at most BUFFER, the buffer's length.
         unsafe {
             let mut pen = Pen::at(base.add(self.used));
-            stretch.row(&mut pen, s);
+            stretch.row(&mut pen, s, curvature);
             self.used = pen.place().offset_from(base) as usize;
         }
         Ok(())
@@ -391,13 +452,15 @@ pub fn list<W: Write>(road: &Alignment, row: &Row, sink: &mut W) -> io::Result<(
             profile: profile.now,
             left: crossfall.left,
             right: crossfall.right,
-            curvature: plan.curvature,
         };
+        let mut curvature = plan.curvature.sum(multiple);
+        let growth = plan.curvature.slope.wrapping_mul(step as i128);
         while multiple < joint {
-            out.row(&stretch, multiple)?;
+            out.row(&stretch, multiple, curvature)?;
             multiple += step;
+            curvature = curvature.wrapping_add(growth);
         }
-        out.row(&stretch, joint)?;
+        out.row(&stretch, joint, plan.curvature.sum(joint))?;
         if multiple == joint {
             multiple += step;
         }
