@@ -4,6 +4,7 @@
     largest.in   100 km, a row every metre, all lists as long as a road can have them
     usual.in     5 km, a row every 20 m
     refused.in   the largest road, with a crossfall that changes on the last arc (R 19 194)
+    mountain.in  100 km, a row every metre, most of them on egg curves and in reversing bends
 
 The files are the same at every run.
 """
@@ -46,6 +47,11 @@ def encode(class_, terrain, step, ramp_limit, elements, height, tangents, points
     return b"".join(out)
 
 
+def tilt(radius, crossfall):
+    """Left and right on an arc, the inner side negative."""
+    return (crossfall, -crossfall) if radius > 0 else (-crossfall, crossfall)
+
+
 def plan(straights, bends):
     """Elements of straights and bends in turn, and the points of the bends' crossfalls: the ramps
     lie on the clothoids. A bend is clothoid length, arc length, radius, clothoid length, crossfall
@@ -54,22 +60,28 @@ def plan(straights, bends):
     points = []
     station = straights[0]
     for (into, arc, radius, out, crossfall), straight in zip(bends, straights[1:]):
-        if crossfall is None:
-            tilt = ROOF
-        elif radius > 0:
-            tilt = (crossfall, -crossfall)
-        else:
-            tilt = (-crossfall, crossfall)
+        on_arc = ROOF if crossfall is None else tilt(radius, crossfall)
         points += [
             (station, *ROOF),
-            (station + into, *tilt),
-            (station + into + arc, *tilt),
+            (station + into, *on_arc),
+            (station + into + arc, *on_arc),
             (station + into + arc + out, *ROOF),
         ]
         elements += [(CLOTHOID, into, 0), (ARC, arc, radius), (CLOTHOID, out, 0)]
         elements.append((STRAIGHT, straight, 0))
         station += into + arc + out + straight
     return elements, points, station
+
+
+def hundred_tangents(total):
+    """Uphill and downhill in turn, with curves between them; at 40 km/h, 100 km."""
+    tangents = []
+    for i in range(99):
+        grade = 40_000 + i // 2 * 6151 % 60_000 + i % 7
+        half = 400_003 + i * 3571 % 50_000
+        tangents.append((999_503 + i * 577 % 1009, grade if i % 2 == 0 else -grade, half))
+    rest = total - sum(t[0] for t in tangents)
+    return [*tangents, (rest, -30_000, 0)]
 
 
 def largest(change_on_last_arc=0):
@@ -91,14 +103,7 @@ def largest(change_on_last_arc=0):
         station, left, right = points[-4]
         points[-4] = (station, left, right + change_on_last_arc)
 
-    tangents = []
-    for i in range(99):
-        grade = 40_000 + i // 2 * 6151 % 60_000 + i % 7
-        half = 400_003 + i * 3571 % 50_000
-        tangents.append((999_503 + i * 577 % 1009, grade if i % 2 == 0 else -grade, half))
-    rest = total - sum(t[0] for t in tangents)
-    tangents.append((rest, -30_000, 0))
-    return encode(4, 3, 1_000, 5_000, elements, 1_000_000, tangents, points)
+    return encode(4, 3, 1_000, 5_000, elements, 1_000_000, hundred_tangents(total), points)
 
 
 def usual():
@@ -126,6 +131,62 @@ def usual():
     return encode(2, 2, 20_000, 5_000, elements, 212_345, tangents, points)
 
 
+def mountain():
+    """40 km/h: 80 arcs, no two of one radius, none over 1,000,000. From one to the next lead an egg
+    (E), a reversing pair (P) or two clothoids with a straight between them (S): 45, 31 and 3 times.
+    200 elements, 100 tangents, 200 crossfall points: both ends of arcs and straights, and where the
+    clothoids of a pair meet, the first pair apart."""
+    total = 100_000_000
+    links = ("PEPEE" * 16)[:76]
+    links = "S".join(links[i : i + 19] for i in range(0, 76, 19))
+    elements, points, station = [], [], 0
+
+    def add(kind, length, radius=0):
+        nonlocal station
+        length += len(elements) * 7919 % 1201
+        elements.append((kind, length, radius))
+        station += length
+
+    def point(crossfalls):
+        points.append((station, *crossfalls))
+
+    def straight(length):
+        point(ROOF)
+        add(STRAIGHT, length)
+        point(ROOF)
+
+    def arc(i, turn):
+        radius = turn * (1_000_000 - (361_013 + 7919 * i) * i % 955_001)
+        on_arc = tilt(radius, 25_000 + 977 * i % 45_000)
+        point(on_arc)
+        add(ARC, 149_003, radius)
+        point(on_arc)
+
+    turn = 1
+    straight(199_001)
+    add(CLOTHOID, 149_003)
+    arc(0, turn)
+    for i, link in enumerate(links, 1):
+        if link == "E":
+            add(CLOTHOID, 1_001_003)
+        elif link == "P":
+            turn = -turn
+            add(CLOTHOID, 655_003)
+            if i > 1:
+                point(ROOF)
+            add(CLOTHOID, 655_003)
+        else:
+            add(CLOTHOID, 149_003)
+            straight(199_001)
+            add(CLOTHOID, 149_003)
+        arc(i, turn)
+    add(CLOTHOID, 149_003)
+    straight(total - station - len(elements) * 7919 % 1201)
+    assert station == total and len(elements) == len(points) == 200
+    assert len({abs(radius) for kind, _, radius in elements if kind == ARC}) == 80
+    return encode(4, 3, 1_000, 5_000, elements, 1_000_000, hundred_tangents(total), points)
+
+
 def main():
     if len(sys.argv) != 2:
         sys.exit(__doc__.strip())
@@ -134,6 +195,7 @@ def main():
     (folder / "largest.in").write_bytes(largest())
     (folder / "usual.in").write_bytes(usual())
     (folder / "refused.in").write_bytes(largest(change_on_last_arc=1))
+    (folder / "mountain.in").write_bytes(mountain())
 
 
 main()
