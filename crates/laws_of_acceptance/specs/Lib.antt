@@ -1,5 +1,6 @@
 pub mod Judging
 pub mod PlanOrder
+pub mod Kinds
 pub mod Links
 pub mod PointOrder
 pub mod Ranged
