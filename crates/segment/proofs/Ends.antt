@@ -1,5 +1,5 @@
 -- The curvature between the two ends of an element. What one end gives is one fraction; by the kinds that there are, the sum of both is one fraction too.
-use mathlib.Core.Path.{_≡_, ap, _∙_}
+use mathlib.Core.Path.{_≡_, ap, ap₂, _∙_}
 use mathlib.Core.List.{[], _∷_}
 use Prim.Native.Nat.{ℕ, _*_, _≤_, _<_}
 use native.Mathlib.Omega.{arith}
@@ -10,12 +10,12 @@ use mir.Syntax.{w64}
 use mir.Val.{SFits}
 use Rattle.integers.specs.Bridge.{nat, _⊗_, lt!, abs-mul, abs-product}
 use Rattle.integers.specs.Ring.{_:+_, _:-_, _:*_, #, ring, $}
-use Rattle.integers.specs.Fraction.{_÷_, _×ᶠ_}
+use Rattle.integers.specs.Fraction.{_÷_, _+ᶠ_, _×ᶠ_}
 use Rattle.integers.specs.Values.{positive-mul}
 use Rattle.integers.specs.Rounding.{round, rounded, rounded-value}
 use Rattle.integers.specs.Width.{fits64, divisor, above-zero, Doubles}
-use Rattle.segment.specs.Segment.{SizedEnd, Sound, OneArc, from-straight, to-straight, same-arc, past, valueOf, curvatureIn}
-use Rattle.segment.specs.Sizes.{OfEnd}
+use Rattle.segment.specs.Segment.{SizedEnd, Sound, Joined, from-straight, to-straight, same-arc, egg, past, valueOf, curvatureIn}
+use Rattle.segment.specs.Sizes.{OfEnd, OnEgg}
 use Rattle.segment.specs.Short.{remaining-small}
 use Rattle.segment.specs.declared.End.{End}
 use Rattle.segment.specs.declared.Segment.{Segment}
@@ -112,11 +112,36 @@ module _ {s : Segment} {x : ℕ} (p : Sound s x) where
         ($ 0 :* (($ 2 :* $ 3) :* ($ 2 :* $ 3))) ((($ 0 :* ($ 3 :- $ 1)) :* ($ 2 :* $ 3) :+ ($ 0 :* $ 1) :* ($ 2 :* $ 3)) :* $ 2) tt);
   })
 
-  -- neither end is a straight's
-  pub arc-between : (s .start .turn ≡ pos 0 → ⊥) → (s .end .turn ≡ pos 0 → ⊥) → rounded (valueOf (s .start)) ≡ rounded (curvatureIn s x)
-  arc-between a b = go (p .one-arc)
-    where
-      go : OneArc (s .start) (s .end) → rounded (valueOf (s .start)) ≡ rounded (curvatureIn s x)
-      go (from-straight e) = absurd (a e)
-      go (to-straight e) = absurd (b e)
-      go (same-arc e) = arc e
+  -- ---- neither end is a straight's
+  module _ (a : s .start .turn ≡ pos 0 → ⊥) (b : s .end .turn ≡ pos 0 → ⊥) where
+    pub arc-between : s .start .radius ≡ s .end .radius → rounded (valueOf (s .start)) ≡ rounded (curvatureIn s x)
+    arc-between r = go (p .joined)
+      where
+        go : Joined (s .start) (s .end) → rounded (valueOf (s .start)) ≡ rounded (curvatureIn s x)
+        go (from-straight e) = absurd (a e)
+        go (to-straight e) = absurd (b e)
+        go (same-arc e) = arc e
+        go (egg e _ _) = arc (ap₂ (λ (t n : ℤ). record { turn = t; radius = n }) e r)
+
+    pub egg-between : (s .start .radius ≡ s .end .radius → ⊥) → OnEgg (s .start) (s .end) (s .length) d
+    egg-between r = go (p .joined)
+      where
+        go : Joined (s .start) (s .end) → OnEgg (s .start) (s .end) (s .length) d
+        go (from-straight e) = absurd (a e)
+        go (to-straight e) = absurd (b e)
+        go (same-arc e) = absurd (r (ap (λ (n : End). n .radius) e))
+        go (egg e f g) = record {
+          start-size = p .start-size;
+          end-size = p .end-size;
+          same-turn = e;
+          start-high = f;
+          end-high = g;
+          length-low = p .length-low;
+          length-high = p .length-high;
+          past-low = p .element-low;
+          inside = p .element-high;
+        }
+
+  pub egg-answer : {r : ℤ} → r ≡ rounded (valueOf (s .start) ×ᶠ ((s .length -ℤ d) ÷ l) +ᶠ valueOf (s .end) ×ᶠ (d ÷ l)) → r ≡ rounded (curvatureIn s x)
+  unfolding curvatureIn
+  egg-answer e = e

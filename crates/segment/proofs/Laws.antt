@@ -31,6 +31,10 @@ floor-small (negsuc a) d = omega (arith, div-le-self a d)
 pub is-zero : {a : ℤ} → SFits w64 a → ofZ w64 a ≡ 0 → a ≡ pos 0
 is-zero {a} f e = sym (toZ-ofZ f) ∙ ap (toZ w64) e
 
+-- two numbers that the machine finds to be the same
+pub is-same : {a b : ℤ} → SFits w64 a → SFits w64 b → ofZ w64 a ≡ ofZ w64 b → a ≡ b
+is-same f g e = sym (toZ-ofZ f) ∙ ap (toZ w64) e ∙ toZ-ofZ g
+
 -- a whole number rounds to itself, over any denominator
 pub round-multiple : {n : ℤ} (k : ℕ) (a : ℤ) → 0 < k → n ≡ pos k *ℤ a → a ≡ round n k
 round-multiple {n} k a p e =

@@ -89,11 +89,14 @@ pub record SizedEnd (e : End) : Type 0 where
   pub radius-low : pos 0 <ℤ e .radius
   pub radius-high : natAbs (e .radius) ≤ 10000000
 
--- an element has a straight at one end at least, or is an arc
-pub data OneArc (start end : End) : Type 0 where
-  from-straight : start .turn ≡ pos 0 → OneArc start end
-  to-straight : end .turn ≡ pos 0 → OneArc start end
-  same-arc : start ≡ end → OneArc start end
+-- what an element joins: a straight at one end at least; one arc, its own, at both; or two arcs of one turn.
+-- "One clothoid may stand between two arcs of the same turn and different radii; its curvature runs evenly from one to the other"; a radius over
+-- 1,000,000 mm is refused with 23
+pub data Joined (start end : End) : Type 0 where
+  from-straight : start .turn ≡ pos 0 → Joined start end
+  to-straight : end .turn ≡ pos 0 → Joined start end
+  same-arc : start ≡ end → Joined start end
+  egg : start .turn ≡ end .turn → natAbs (start .radius) ≤ 1000000 → natAbs (end .radius) ≤ 1000000 → Joined start end
 
 -- what the code asks of a segment and a station, so that everything fits 64 bits
 pub record Sound (s : Segment) (x : ℕ) : Type 0 where
@@ -120,7 +123,7 @@ pub record Sound (s : Segment) (x : ℕ) : Type 0 where
   pub length-high : natAbs (s .length) ≤ 10000000
   pub start-size : SizedEnd (s .start)
   pub end-size : SizedEnd (s .end)
-  pub one-arc : OneArc (s .start) (s .end)
+  pub joined : Joined (s .start) (s .end)
 
 -- the segment says what the exact road says at a station
 pub record Shows (r : Road) (s : Segment) (x : ℕ) : Type 0 where

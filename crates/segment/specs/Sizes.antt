@@ -1,7 +1,8 @@
 -- What the functions of a segment ask of the numbers that they are given, so that everything fits 64 bits.
-use Prim.Native.Nat.{ℕ, _*_, _≤_}
+use mathlib.Core.Path.{_≡_}
+use Prim.Native.Nat.{ℕ, _*_, _≤_, _<_}
 use lib.IntN.{ℤ, pos, _+ℤ_, _*ℤ_, natAbs}
-use lib.Signed.{_<ℤ_}
+use lib.Signed.{_≤ℤ_, _<ℤ_}
 use Rattle.integers.specs.Fraction.{_÷_}
 use Rattle.integers.specs.Rounding.{rounded}
 use Rattle.segment.specs.Segment.{SizedEnd}
@@ -22,6 +23,29 @@ pub record OfEnd (e : End) (length distance : ℤ) : Type 0 where
   pub length-low : pos 0 <ℤ length
   pub length-high : natAbs length ≤ 10000000
   pub inside : natAbs distance ≤ natAbs length
+
+-- a distance past the start of an egg; that its radii differ is not needed
+pub record OnEgg (start end : End) (length past : ℤ) : Type 0 where
+  pub start-size : SizedEnd start
+  pub end-size : SizedEnd end
+  pub same-turn : start .turn ≡ end .turn
+  pub start-high : natAbs (start .radius) ≤ 1000000
+  pub end-high : natAbs (end .radius) ≤ 1000000
+  pub length-low : pos 0 <ℤ length
+  pub length-high : natAbs length ≤ 10000000
+  pub past-low : pos 0 ≤ℤ past
+  pub inside : natAbs past ≤ natAbs length
+
+-- the same without signs, of the radii at its start and at its end
+pub record EggSizes (turn first second length past : ℕ) : Type 0 where
+  pub turn-high : turn ≤ 1000000000
+  pub first-low : 0 < first
+  pub first-high : first ≤ 1000000
+  pub second-low : 0 < second
+  pub second-high : second ≤ 1000000
+  pub length-low : 0 < length
+  pub length-high : length ≤ 10000000
+  pub inside : past ≤ length
 
 -- a crossfall of over / span on a lane
 pub record OfLane (over span width : ℤ) : Type 0 where

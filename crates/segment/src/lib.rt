@@ -1,15 +1,15 @@
 // The printed numbers and the line of a station, from the numbers of the segment that it lies on.
 ghost use mathlib.Core.Path.{_≡_};
-ghost use Prim.Native.Nat.{_+_, _*_, _≤_, _<_};
-ghost use lib.IntN.{pos, _+ℤ_, _*ℤ_, natAbs};
+ghost use Prim.Native.Nat.{_+_, _*_, _-_, _≤_, _<_};
+ghost use lib.IntN.{pos, _+ℤ_, _-ℤ_, _*ℤ_, natAbs};
 ghost use lib.ListN.{length};
-ghost use Rattle.integers.specs.Fraction.{_÷_, _×ᶠ_};
-ghost use Rattle.integers.specs.Rounding.{rounded};
+ghost use Rattle.integers.specs.Fraction.{_÷_, _+ᶠ_, _×ᶠ_};
+ghost use Rattle.integers.specs.Rounding.{nearestSize, rounded};
 ghost use Rattle.decimal.specs.Pairs.{pairTable};
 ghost use Rattle.decimal.specs.Written.{Wrote};
 ghost use Rattle.segment.specs.Segment.{Sound, past, valueOf, heightIn, gradeIn, curvatureIn, numbersIn, lineIn};
 ghost use Rattle.segment.specs.Line.{four};
-ghost use Rattle.segment.specs.Sizes.{InCurve, OfEnd, OfLane, OnSide, laneOf};
+ghost use Rattle.segment.specs.Sizes.{InCurve, OfEnd, OnEgg, EggSizes, OfLane, OnSide, laneOf};
 
 // The curvature at an end of an element, turn / radius: of an arc 10⁹ with the radius' sign over the radius' size, of a straight 0 over 1.
 pub struct End {
@@ -140,6 +140,43 @@ fn share(e: End, length: i64, distance: i64) -> i64
     integers::round_div(e.turn * distance, e.radius * length)
 }
 
+// A turn without its sign.
+fn size_of(turn: i64) -> u64
+    requires { ⌜ natAbs turn ≤ 1000000000 ⌝ }
+    ensures { λ r. ⌜ r ≡ natAbs turn ⌝ }
+{
+    if turn < 0 { -turn as u64 } else { turn as u64 }
+}
+
+// The size of an egg's curvature, of its radii at start and end. Its fraction does not fit; what each end gives does, and so do both rests over one denominator.
+fn egg_size(turn: u64, first: u64, second: u64, length: u64, past: u64) -> u64
+    requires { ⌜ EggSizes turn first second length past ⌝ }
+    ensures { λ r. ⌜ r ≡ nearestSize (turn * (second * (length - past) + first * past)) (first * second * length) ⌝ ∗ ⌜ r ≤ 1000000000 ⌝ }
+{
+    let from_start = turn * (length - past);
+    let from_end = turn * past;
+    let under_start = first * length;
+    let under_end = second * length;
+    integers::nearest_sum(
+        from_start / under_start + from_end / under_end,
+        from_start % under_start * second,
+        from_end % under_end * first,
+        first * under_end,
+    )
+}
+
+// The curvature on an egg, evenly from one end's to the other's: the sign is taken off, the size rounded, and the sign put back.
+fn egg(start: End, end: End, length: i64, past: i64) -> i64
+    requires { ⌜ OnEgg start end length past ⌝ }
+    ensures { λ r. ⌜ r ≡ rounded (valueOf start ×ᶠ ((length -ℤ past) ÷ natAbs length) +ᶠ valueOf end ×ᶠ (past ÷ natAbs length)) ⌝ }
+{
+    let turn = size_of(start.turn);
+    let first = start.radius as u64;
+    let second = end.radius as u64;
+    let size = egg_size(turn, first, second, length as u64, past as u64) as i64;
+    if start.turn < 0 { -size } else { size }
+}
+
 // The curvature at a station.
 pub fn curvature_at(s: Segment, x: u64) -> i64
     requires { ⌜ Sound s x ⌝ }
@@ -158,8 +195,11 @@ pub fn curvature_at(s: Segment, x: u64) -> i64
     if end.turn == 0 {
         return share(start, s.length, s.length - past);
     }
-    // the same arc at both ends
-    integers::round_div(start.turn, start.radius)
+    if start.radius == end.radius {
+        // the same arc at both ends
+        return integers::round_div(start.turn, start.radius);
+    }
+    egg(start, end, s.length, past)
 }
 
 // The drop of an edge, from the exact crossfall over / span.

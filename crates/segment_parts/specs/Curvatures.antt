@@ -24,7 +24,7 @@ use Rattle.laws_of_acceptance.specs.PlanOrder.{BesideClothoid, entry, exit}
 use Rattle.laws_of_acceptance.specs.Ranges.{element-in}
 use Rattle.laws_of_pieces.specs.Curvatures.{OnElement, element-positive, curvature-on}
 use Rattle.laws_of_acceptance.specs.Guaranteed.{Guaranteed}
-use Rattle.segment.specs.Segment.{valueOf, SizedEnd, OneArc, from-straight, to-straight, same-arc}
+use Rattle.segment.specs.Segment.{valueOf, SizedEnd, Joined, from-straight, to-straight, same-arc}
 use Rattle.segment.specs.declared.End.{End}
 use Rattle.segment_parts.specs.declared.Curvature.{Curvature}
 use Rattle.segment_parts.specs.Ends.{turned, turned-size, endOf, curvatureAt}
@@ -38,7 +38,7 @@ pub record Curved (r : Road) (i : ℕ) (c : Curvature) : Type 0 where
   pub length : c .length ≡ pos (elementOf r i .length)
   pub start : SizedEnd (c .start)
   pub end : SizedEnd (c .end)
-  pub one-arc : OneArc (c .start) (c .end)
+  pub joined : Joined (c .start) (c .end)
   pub value : (y : ℕ) → OnElement r i y → curvature r y ≈ᶠ between (valueOf (c .start)) (valueOf (c .end)) (elementOf r i .length) (from elementStart r i to y)
 
 -- ---- fractions
@@ -126,10 +126,10 @@ module _ {r : Road} (G : Guaranteed r) where
   start-sized (suc i) = end-sized i
 
   -- ---- all that is used of the plan's order: a clothoid has a straight beside it
-  straight-beside : (i : ℕ) → i < length (r .plan) → elementOf r i .kind ≡ 2 → OneArc (endOf (elementBefore r i)) (endOf (elementOf r (suc i)))
+  straight-beside : (i : ℕ) → i < length (r .plan) → elementOf r i .kind ≡ 2 → Joined (endOf (elementBefore r i)) (endOf (elementOf r (suc i)))
   straight-beside i h e = go (G .plan-order .clothoid i (record { within = h; is = e }))
     where
-      go : BesideClothoid r i → OneArc (endOf (elementBefore r i)) (endOf (elementOf r (suc i)))
+      go : BesideClothoid r i → Joined (endOf (elementBefore r i)) (endOf (elementOf r (suc i)))
       go (entry j q s _) = from-straight (no-turn (elementBefore r i) (ap (λ (k : ℕ). elementBefore r k .kind) q ∙ s .is))
       go (exit j q _ s) = to-straight (no-turn (elementOf r (suc i)) (s .is))
 
@@ -148,7 +148,7 @@ module _ {r : Road} (G : Guaranteed r) where
         length = refl;
         start = start-sized i;
         end = end-sized (suc i);
-        one-arc = straight-beside i h e;
+        joined = straight-beside i h e;
         value = λ y o.
             curvature-on (G .accepted-as) i y o
             then same-value (element-positive (G .accepted-as) i y h) (clothoid-is r i y e ∙ clothoid-by r i y)
@@ -158,7 +158,7 @@ module _ {r : Road} (G : Guaranteed r) where
         length = refl;
         start = end-sized i;
         end = end-sized i;
-        one-arc = same-arc refl;
+        joined = same-arc refl;
         value = λ y o.
             curvature-on (G .accepted-as) i y o
             then same-value (element-positive (G .accepted-as) i y h) (own-is r i y (elementOf r i .kind) refl (let k = element-in (G .accepted-as) i h .kind .high in omega (arith, e)) ∙ end-value r i)

@@ -134,7 +134,7 @@ module _ {r : Road} (G : Guaranteed r) where
           length-high = rw (C .length) (l .high);
           start-size = C .start;
           end-size = C .end;
-          one-arc = C .one-arc;
+          joined = C .joined;
         }
 
     curved-there : curvature r y ≈ᶠ curvatureIn s y

@@ -1,15 +1,15 @@
--- Each return is one case of Ends: no curve, one share, or the arc's own fraction.
+-- Each return is one case of Ends: no curve, one share, the arc's own fraction, or the egg's.
 use mathlib.Core.Path.{_≡_, sym, ap, _∙_, subst}
 use lib.IntN.{ℤ, pos, _-ℤ_, natAbs}
 use mir.Syntax.{w64}
 use mir.Val.{SFits, ofZ}
 use mir.Facts.{toZ-ofZ}
-use Rattle.integers.specs.Fraction.{_÷_, _×ᶠ_}
+use Rattle.integers.specs.Fraction.{_÷_, _+ᶠ_, _×ᶠ_}
 use Rattle.integers.specs.Rounding.{rounded}
 use Rattle.segment.specs.Segment.{SizedEnd, past, valueOf}
-use Rattle.segment.specs.Sizes.{OfEnd}
+use Rattle.segment.specs.Sizes.{OfEnd, OnEgg}
 use Rattle.segment.specs.declared.End.{End}
-use Rattle.segment.proofs.Laws.{is-zero}
+use Rattle.segment.proofs.Laws.{is-zero, is-same}
 use Rattle.segment.proofs.Ends as ends
 use Rattle.segment.proofs.Fields as f
 use Rattle.segment.proofs.curvature_at.Statement.{statement}
@@ -71,15 +71,51 @@ returns-3 c =
     ∙ ap (λ (d : ℤ). rounded (valueOf (s .args .s .start) ×ᶠ ((s .args .s .length -ℤ d) ÷ natAbs (s .args .s .length)))) (past-is a)
     ∙ ends.straight-behind p (zero (p .end-size) (c .before .before .before .before .if3 .taken)))
 
+-- both ends turn
+module _ (c : tie.After-struct-told9) where
+  abbrev between : tie.After-distance
+  between = c .before .before .before .before .before .before .before .before .before .before
+
+  abbrev start : tie.Start
+  start = begin between
+
+  from-turn : start .args .s .start .turn ≡ pos 0 → ⊥
+  from-turn = other _ (c .before .before .before .before .before .before .before .if1 .left)
+
+  to-turn : start .args .s .end .turn ≡ pos 0 → ⊥
+  to-turn = other _ (c .before .before .before .before .if3 .left)
+
 round-div-requires : tie.Need-round-div-requires
-round-div-requires c κs = let p = begin (c .before .before .before .before .before .before .before .before) .pre in simp (toZ-ofZ, ends.turn-fits (p .start-size), ends.radius-fits (p .start-size)) (ends.arc-rounds (p .start-size))
+round-div-requires c κs = let p = start (c .before .before .before) .pre .start-size in simp (toZ-ofZ, ends.turn-fits p, ends.radius-fits p) (ends.arc-rounds p)
 
 returns-4 : tie.Need-returns-4
 unfolding rounded
 returns-4 c =
-    let p = begin (c .before .before .before .before .before .before .before .before .before) .pre in
+    let a = c .before .before .before .before in
+    let p = start a .pre in
+    let same = is-same (ends.radius-fits (p .start-size)) (ends.radius-fits (p .end-size)) (c .before .before .before .if4 .taken) in
     let k : SFits w64 (c .round-div .result) = record { sfits = c .round-div .ok } in
-    simp toZ-ofZ ((simp (toZ-ofZ, ends.turn-fits (p .start-size), ends.radius-fits (p .start-size)) at (c .round-div .ensures)) ∙ ends.arc-between p (other _ (c .before .before .before .before .before .before .if1 .left)) (other _ (c .before .before .before .if3 .left)))
+    simp toZ-ofZ ((simp (toZ-ofZ, ends.turn-fits (p .start-size), ends.radius-fits (p .start-size)) at (c .round-div .ensures)) ∙ ends.arc-between p (from-turn a) (to-turn a) same)
+
+egg-requires : tie.Need-egg-requires
+egg-requires c κs =
+    let a = c .before .before in
+    let s = start a .args .s in
+    let p = start a .pre in
+    simp (toZ-ofZ, f.length-fits p, past-fits (between a))
+    (subst (λ (d : ℤ). OnEgg (s .start) (s .end) (s .length) d) (sym (past-is (between a)))
+    (ends.egg-between p (from-turn a) (to-turn a) (λ e. c .before .if4 .left (ap (ofZ w64) e))))
+
+returns-5 : tie.Need-returns-5
+returns-5 c =
+    let a = c .before .before .before in
+    let s = start a .args .s in
+    let p = start a .pre in
+    let k : SFits w64 (c .egg .result) = record { sfits = c .egg .ok } in
+    simp toZ-ofZ (ends.egg-answer p ((simp (toZ-ofZ, f.length-fits p, past-fits (between a)) at (c .egg .ensures))
+    ∙ ap (λ (d : ℤ). rounded (valueOf (s .start) ×ᶠ ((s .length -ℤ d) ÷ natAbs (s .length)) +ᶠ valueOf (s .end) ×ᶠ (d ÷ natAbs (s .length)))) (past-is (between a))))
 
 pub curvature-at-spec : {M : Type 1} → statement M
-curvature-at-spec = tie.close (tie.spec distance-requires returns share-requires returns-2 sub-share share-requires-2 returns-3 round-div-requires returns-4)
+curvature-at-spec =
+    tie.close
+    (tie.spec distance-requires returns share-requires returns-2 sub-share share-requires-2 returns-3 round-div-requires returns-4 egg-requires returns-5)
