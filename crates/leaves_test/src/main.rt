@@ -9,6 +9,12 @@ fn show(v: i64) {
     io::write_all(1, &line[..end]);
 }
 
+// A size on a line of its own.
+fn show_size(n: u64) {
+    io::print_decimal(1, n);
+    io::write_all(1, b"\n");
+}
+
 fn wide(v: i32) -> i64 {
     v as i64
 }
@@ -68,9 +74,22 @@ fn widest() {
     show(integers::rem_floor(-9223372036854775808, 9223372036854775807));
 }
 
+// Over a divisor that i64 does not hold: an exact half and just below it, and two rests that together u64 does not hold.
+fn sums() {
+    show_size(integers::nearest_sum(1000, 4990000000000000000, 0, 9980000000000000000));
+    show_size(integers::nearest_sum(1000, 4989999999999999999, 0, 9980000000000000000));
+    show_size(integers::nearest_sum(
+        1000,
+        9979999999999999999,
+        9979999999999999999,
+        9980000000000000000,
+    ));
+}
+
 fn main() {
     numbers();
     signed_values();
     roundings();
     widest();
+    sums();
 }
