@@ -89,7 +89,7 @@ pub record SizedEnd (e : End) : Type 0 where
   pub radius-low : pos 0 <ℤ e .radius
   pub radius-high : natAbs (e .radius) ≤ 10000000
 
--- what an element joins: a straight at one end at least; one arc, its own, at both; or two arcs of one turn.
+-- what an element joins: curvature 0 at one end at least, a straight's or where two clothoids meet; one arc, its own, at both; or two arcs of one turn.
 -- "One clothoid may stand between two arcs of the same turn and different radii; its curvature runs evenly from one to the other"; a radius over
 -- 1,000,000 mm is refused with 23
 pub data Joined (start end : End) : Type 0 where
