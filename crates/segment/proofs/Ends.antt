@@ -1,5 +1,5 @@
 -- The curvature between the two ends of an element. What one end gives is one fraction; by the kinds that there are, the sum of both is one fraction too.
-use mathlib.Core.Path.{_≡_, ap, ap₂, _∙_}
+use mathlib.Core.Path.{_≡_, ap, ap₂, subst, _∙_}
 use mathlib.Core.List.{[], _∷_}
 use Prim.Native.Nat.{ℕ, _*_, _≤_, _<_}
 use native.Mathlib.Omega.{arith}
@@ -142,6 +142,6 @@ module _ {s : Segment} {x : ℕ} (p : Sound s x) where
           inside = p .element-high;
         }
 
-  pub egg-answer : {r : ℤ} → r ≡ rounded (valueOf (s .start) ×ᶠ ((s .length -ℤ d) ÷ l) +ᶠ valueOf (s .end) ×ᶠ (d ÷ l)) → r ≡ rounded (curvatureIn s x)
+  pub egg-answer : {r u : ℤ} → u ≡ d → r ≡ rounded (valueOf (s .start) ×ᶠ ((s .length -ℤ u) ÷ l) +ᶠ valueOf (s .end) ×ᶠ (u ÷ l)) → r ≡ rounded (curvatureIn s x)
   unfolding curvatureIn
-  egg-answer e = e
+  egg-answer {r} q e = subst (λ (u : ℤ). r ≡ rounded (valueOf (s .start) ×ᶠ ((s .length -ℤ u) ÷ l) +ᶠ valueOf (s .end) ×ᶠ (u ÷ l))) q e

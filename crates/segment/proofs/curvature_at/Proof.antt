@@ -4,7 +4,7 @@ use lib.IntN.{ℤ, pos, _-ℤ_, natAbs}
 use mir.Syntax.{w64}
 use mir.Val.{SFits, ofZ}
 use mir.Facts.{toZ-ofZ}
-use Rattle.integers.specs.Fraction.{_÷_, _+ᶠ_, _×ᶠ_}
+use Rattle.integers.specs.Fraction.{_÷_, _×ᶠ_}
 use Rattle.integers.specs.Rounding.{rounded}
 use Rattle.segment.specs.Segment.{SizedEnd, past, valueOf}
 use Rattle.segment.specs.Sizes.{OfEnd, OnEgg}
@@ -109,11 +109,9 @@ egg-requires c κs =
 returns-5 : tie.Need-returns-5
 returns-5 c =
     let a = c .before .before .before in
-    let s = start a .args .s in
     let p = start a .pre in
     let k : SFits w64 (c .egg .result) = record { sfits = c .egg .ok } in
-    simp toZ-ofZ (ends.egg-answer p ((simp (toZ-ofZ, f.length-fits p, past-fits (between a)) at (c .egg .ensures))
-    ∙ ap (λ (d : ℤ). rounded (valueOf (s .start) ×ᶠ ((s .length -ℤ d) ÷ natAbs (s .length)) +ᶠ valueOf (s .end) ×ᶠ (d ÷ natAbs (s .length)))) (past-is (between a))))
+    simp toZ-ofZ (ends.egg-answer p (past-is (between a)) (simp (toZ-ofZ, f.length-fits p, past-fits (between a)) at (c .egg .ensures)))
 
 pub curvature-at-spec : {M : Type 1} → statement M
 curvature-at-spec =
