@@ -114,9 +114,9 @@ reversed (turn x later) = turn (reversing x) later
 mutual
   unfolding stop mayFollow
 
-  from-straight : (ks : List ℕ) (i a : ℕ) → stop (suc i) a 0 ks ≡ none → AllowedOrder (0 ∷ ks)
-  from-straight [] i a h = straight
-  from-straight (k ∷ ks) i a h =
+  from-zero : (ks : List ℕ) (i a : ℕ) → stop (suc i) a 0 ks ≡ none → AllowedOrder (0 ∷ ks)
+  from-zero [] i a h = straight
+  from-zero (k ∷ ks) i a h =
       let n = next (suc i) a 0 k ks (λ k. AllowedOrder (0 ∷ k ∷ ks)) h in
       n .1 2 (n .0) (λ t. bent (from-entry ks (suc i) 0 refl t))
 
@@ -139,7 +139,7 @@ mutual
       elim (or-yes (eqb k 1) (eqb k 0 || eqb k 2) (n .0)) [
         | inl e ↦ n .1 1 e (λ t. linked (from-arc ks (suc i) t))
         | inr o ↦ elim (or-yes (eqb k 0) (eqb k 2) o) [
-          | inl e ↦ n .1 0 e (λ t. turn last (from-straight ks (suc i) 2 t))
+          | inl e ↦ n .1 0 e (λ t. turn last (from-zero ks (suc i) 2 t))
           | inr e ↦ n .1 2 e (λ t. reversed (from-entry ks (suc i) 2 refl t))
         ]
       ]
@@ -149,7 +149,7 @@ unfolding stop
 passing-allowed [] h = absurd (not-none refl h)
 passing-allowed (k ∷ ks) h =
     let n = next 0 0 0 k ks (λ k. AllowedOrder (k ∷ ks)) h in
-    n .1 0 (n .0) (from-straight ks 0 0)
+    n .1 0 (n .0) (from-zero ks 0 0)
 
 -- ---- where it stops is the first wrong place
 

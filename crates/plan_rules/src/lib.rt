@@ -115,7 +115,12 @@ fn is_short_egg(parameter: u32, length: u32, first: i32, second: i32) -> bool
 {
     let over = sizes::product(length, sizes::size(first));
     let square = sizes::product(parameter, parameter);
-    sizes::is_product_below(over, sizes::size(second), square, sizes::apart(first, second))
+    sizes::is_product_below(
+        over,
+        sizes::size(second),
+        square,
+        sizes::apart(first, second),
+    )
 }
 
 // Whether the parameter of a clothoid of a length is below a least one.

@@ -14,7 +14,7 @@ use Rattle.integers.specs.Fraction.{_÷_, _+ᶠ_, _×ᶠ_}
 use Rattle.integers.specs.Values.{positive-mul}
 use Rattle.integers.specs.Rounding.{round, rounded, rounded-value}
 use Rattle.integers.specs.Width.{fits64, divisor, above-zero, Doubles}
-use Rattle.segment.specs.Segment.{SizedEnd, Sound, Joined, from-straight, to-straight, same-arc, egg, past, valueOf, curvatureIn}
+use Rattle.segment.specs.Segment.{SizedEnd, Sound, Joined, from-zero, to-zero, same-arc, egg, past, valueOf, curvatureIn}
 use Rattle.segment.specs.Sizes.{OfEnd, OnEgg}
 use Rattle.segment.specs.Short.{remaining-small}
 use Rattle.segment.specs.declared.End.{End}
@@ -118,8 +118,8 @@ module _ {s : Segment} {x : ℕ} (p : Sound s x) where
     arc-between r = go (p .joined)
       where
         go : Joined (s .start) (s .end) → rounded (valueOf (s .start)) ≡ rounded (curvatureIn s x)
-        go (from-straight e) = absurd (a e)
-        go (to-straight e) = absurd (b e)
+        go (from-zero e) = absurd (a e)
+        go (to-zero e) = absurd (b e)
         go (same-arc e) = arc e
         go (egg e _ _) = arc (ap₂ (λ (t n : ℤ). record { turn = t; radius = n }) e r)
 
@@ -127,8 +127,8 @@ module _ {s : Segment} {x : ℕ} (p : Sound s x) where
     egg-between r = go (p .joined)
       where
         go : Joined (s .start) (s .end) → OnEgg (s .start) (s .end) (s .length) d
-        go (from-straight e) = absurd (a e)
-        go (to-straight e) = absurd (b e)
+        go (from-zero e) = absurd (a e)
+        go (to-zero e) = absurd (b e)
         go (same-arc e) = absurd (r (ap (λ (n : End). n .radius) e))
         go (egg e f g) = record {
           start-size = p .start-size;

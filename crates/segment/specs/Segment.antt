@@ -93,8 +93,8 @@ pub record SizedEnd (e : End) : Type 0 where
 -- "One clothoid may stand between two arcs of the same turn and different radii; its curvature runs evenly from one to the other"; a radius over
 -- 1,000,000 mm is refused with 23
 pub data Joined (start end : End) : Type 0 where
-  from-straight : start .turn ≡ pos 0 → Joined start end
-  to-straight : end .turn ≡ pos 0 → Joined start end
+  from-zero : start .turn ≡ pos 0 → Joined start end
+  to-zero : end .turn ≡ pos 0 → Joined start end
   same-arc : start ≡ end → Joined start end
   egg : start .turn ≡ end .turn → natAbs (start .radius) ≤ 1000000 → natAbs (end .radius) ≤ 1000000 → Joined start end
 

@@ -1,11 +1,12 @@
 -- The curvature of an element by its two ends says the exact curvature. A clothoid has its neighbours' at its ends, any other element its own at both.
 use mathlib.Core.Path.{_≡_, refl, ap, ap₂, _∙_}
-use mathlib.Core.Bool.{Bool, true, false}
+use mathlib.Core.Bool.{Bool, true, false, _&&_}
+use mathlib.Core.Logic.{_⊎_, inl, inr}
 use mathlib.Core.List.{[], _∷_}
 use Prim.Native.Nat.{ℕ, zero, suc, _*_, _≤_, _<_}
 use native.Mathlib.Omega.{arith}
 use native.Mathlib.Decide.{ℕ-discrete, decLt}
-use borrow.Author.Tests.{eq-eqb, ne-eqb}
+use borrow.Author.Tests.{eq-eqb, ne-eqb, le-ltb}
 use lib.Dec.{eqb}
 use lib.ListN.{length, List·getD-eq-default}
 use lib.IntN.{ℤ, pos, negsuc, natAbs, _-ℤ_}
@@ -14,17 +15,18 @@ use Rattle.integers.specs.Ring.{_:+_, _:-_, _:*_, ring, $}
 use Rattle.integers.specs.Fraction.{Frac, _÷_, whole, _+ᶠ_, _-ᶠ_, _×ᶠ_, _≈ᶠ_}
 use Rattle.integers.specs.Values.{_then_, same-value, positive-mul}
 use Rattle.integers.specs.Width.{above-zero}
-use Rattle.road.specs.Rules.{elementBefore}
+use Rattle.road.specs.Rules.{rightTurn, leftTurn, sameTurn, elementBefore}
+use Rattle.laws_of_lists.specs.Tests.{true-false, and-left, and-right, or-yes}
 use Rattle.road.specs.Base.{if_then_else_}
 use Rattle.road.specs.File.{Road}
 use Rattle.road.specs.Exact.{blankElement, elementOf, elementStart, arcCurvature, startCurvature, endCurvature, clothoidCurvature, curvatureOn, curvature, from_to_}
 use Rattle.laws_of_acceptance.specs.Ranged.{Within}
 use Rattle.road.specs.declared.Element.{Element}
-use Rattle.laws_of_acceptance.specs.PlanOrder.{BesideClothoid, entry, exit}
+use Rattle.laws_of_acceptance.specs.PlanOrder.{Stands}
 use Rattle.laws_of_acceptance.specs.Ranges.{element-in}
 use Rattle.laws_of_pieces.specs.Curvatures.{OnElement, element-positive, curvature-on}
 use Rattle.laws_of_acceptance.specs.Guaranteed.{Guaranteed}
-use Rattle.segment.specs.Segment.{valueOf, SizedEnd, Joined, from-straight, to-straight, same-arc}
+use Rattle.segment.specs.Segment.{valueOf, SizedEnd, Joined, from-zero, to-zero, same-arc, egg}
 use Rattle.segment.specs.declared.End.{End}
 use Rattle.segment_parts.specs.declared.Curvature.{Curvature}
 use Rattle.segment_parts.specs.Ends.{turned, turned-size, endOf, curvatureAt}
@@ -79,8 +81,26 @@ start-value : (r : Road) (i : ℕ) → startCurvature r i ≡ valueOf (endOf (el
 start-value r zero = refl
 start-value r (suc i) = end-value r i
 
-no-turn : (e : Element) → e .kind ≡ 0 → endOf e .turn ≡ pos 0
-no-turn e q = rw q
+no-turn : (e : Element) → (e .kind ≡ 1 → ⊥) → endOf e .turn ≡ pos 0
+no-turn e q = rw (ne-eqb (e .kind) 1 q)
+
+arc-end : (e : Element) → e .kind ≡ 1 → endOf e ≡ record { turn = turned (e .radius); radius = pos (natAbs (e .radius)) }
+arc-end e q = rw (eq-eqb (e .kind) 1 q)
+
+-- arcs of the same turn have one sign
+same-turned : (a b : ℤ) → sameTurn a b ≡ true → turned a ≡ turned b
+same-turned (pos n) (pos m) h = refl
+same-turned (negsuc n) (negsuc m) h = refl
+same-turned (pos n) (negsuc m) h = absurd (opposed (or-yes _ (leftTurn (pos n) && leftTurn (negsuc m)) h))
+  where
+    opposed : ((rightTurn (pos n) && rightTurn (negsuc m)) ≡ true) ⊎ ((leftTurn (pos n) && leftTurn (negsuc m)) ≡ true) → ⊥
+    opposed (inl e) = true-false _ (and-right (rightTurn (pos n)) (rightTurn (negsuc m)) e) refl
+    opposed (inr e) = true-false _ (and-left (leftTurn (pos n)) (leftTurn (negsuc m)) e) (le-ltb n 0 (omega arith))
+same-turned (negsuc n) (pos m) h = absurd (opposed (or-yes _ (leftTurn (negsuc n) && leftTurn (pos m)) h))
+  where
+    opposed : ((rightTurn (negsuc n) && rightTurn (pos m)) ≡ true) ⊎ ((leftTurn (negsuc n) && leftTurn (pos m)) ≡ true) → ⊥
+    opposed (inl e) = true-false _ (and-left (rightTurn (negsuc n)) (rightTurn (pos m)) e) refl
+    opposed (inr e) = true-false _ (and-right (leftTurn (negsuc n)) (leftTurn (pos m)) e) (le-ltb m 0 (omega arith))
 
 sized-end : (e : Element) → (e .kind ≡ 1 → Within 10000 10000000 (natAbs (e .radius))) → SizedEnd (endOf e)
 sized-end e arc = go (ℕ-discrete (e .kind) 1)
@@ -114,24 +134,31 @@ module _ {r : Road} (G : Guaranteed r) where
   none-past : (j : ℕ) → length (r .plan) ≤ j → elementOf r j .kind ≡ 0
   none-past j h = ap (λ (e : Element). e .kind) (List·getD-eq-default (r .plan) blankElement h)
 
-  end-sized : (j : ℕ) → SizedEnd (endOf (elementOf r j))
-  end-sized j = sized-end (elementOf r j) (λ q. go q (decLt j (length (r .plan))))
+  arc-inside : (j : ℕ) → elementOf r j .kind ≡ 1 → j < length (r .plan)
+  arc-inside j q = go (decLt j (length (r .plan)))
     where
-      go : elementOf r j .kind ≡ 1 → Dec (j < length (r .plan)) → Within 10000 10000000 (natAbs (elementOf r j .radius))
-      go q (yes h) = G .radius j h (eq-eqb (elementOf r j .kind) 1 q)
-      go q (no h) = absurd (omega (arith, none-past j (omega arith)))
+      go : Dec (j < length (r .plan)) → j < length (r .plan)
+      go (yes h) = h
+      go (no h) = absurd (omega (arith, none-past j (omega arith)))
+
+  end-sized : (j : ℕ) → SizedEnd (endOf (elementOf r j))
+  end-sized j = sized-end (elementOf r j) (λ q. G .radius j (arc-inside j q) (eq-eqb (elementOf r j .kind) 1 q))
 
   start-sized : (i : ℕ) → SizedEnd (endOf (elementBefore r i))
   start-sized zero = sized-end blankElement (λ q. absurd (omega arith))
   start-sized (suc i) = end-sized i
 
-  -- ---- all that is used of the plan's order: a clothoid has a straight beside it
-  straight-beside : (i : ℕ) → i < length (r .plan) → elementOf r i .kind ≡ 2 → Joined (endOf (elementBefore r i)) (endOf (elementOf r (suc i)))
-  straight-beside i h e = go (G .plan-order .clothoid i (record { within = h; is = e }))
+  -- ---- all that is used of the plan's rules: a clothoid between two arcs is an egg
+  joined-ends : (i : ℕ) → i < length (r .plan) → elementOf r i .kind ≡ 2 → Joined (endOf (elementBefore r i)) (endOf (elementOf r (suc i)))
+  joined-ends zero h e = from-zero refl
+  joined-ends (suc i) h e = go (ℕ-discrete (elementOf r i .kind) 1) (ℕ-discrete (elementOf r (suc (suc i)) .kind) 1)
     where
-      go : BesideClothoid r i → Joined (endOf (elementBefore r i)) (endOf (elementOf r (suc i)))
-      go (entry j q s _) = from-straight (no-turn (elementBefore r i) (ap (λ (k : ℕ). elementBefore r k .kind) q ∙ s .is))
-      go (exit j q _ s) = to-straight (no-turn (elementOf r (suc i)) (s .is))
+      go : Dec (elementOf r i .kind ≡ 1) → Dec (elementOf r (suc (suc i)) .kind ≡ 1) → Joined (endOf (elementOf r i)) (endOf (elementOf r (suc (suc i))))
+      go (no a) _ = from-zero (no-turn (elementOf r i) a)
+      go (yes a) (no b) = to-zero (no-turn (elementOf r (suc (suc i))) b)
+      go (yes a) (yes b) =
+          let E = G .egg i (record { within = omega arith; is = a }) (record { within = h; is = e }) (record { within = arc-inside (suc (suc i)) b; is = b }) in
+          rw (arc-end (elementOf r i) a, arc-end (elementOf r (suc (suc i))) b) (egg (same-turned (elementOf r i .radius) (elementOf r (suc (suc i)) .radius) (E .turn)) (E .first-high) (E .second-high))
 
   -- ---- the element
   pub curved : (i : ℕ) → i < length (r .plan) → Curved r i (curvatureAt r i)
@@ -148,7 +175,7 @@ module _ {r : Road} (G : Guaranteed r) where
         length = refl;
         start = start-sized i;
         end = end-sized (suc i);
-        joined = straight-beside i h e;
+        joined = joined-ends i h e;
         value = λ y o.
             curvature-on (G .accepted-as) i y o
             then same-value (element-positive (G .accepted-as) i y h) (clothoid-is r i y e ∙ clothoid-by r i y)
