@@ -4,6 +4,7 @@ use std::fmt::Debug;
 
 use crate::blade;
 use crate::generate::random::Random;
+use crate::generate::valid::bends::eggs;
 use crate::hexadecimal;
 use crate::summary::Summary;
 use reference::blade::{neighbouring, Row};
@@ -135,6 +136,31 @@ fn halfway(random: &mut Random, road: &Alignment) -> i128 {
     (ends[place] + ends[place + 1]) / 2
 }
 
+/// A station where some number is often an exact half.
+fn half(random: &mut Random, road: &Alignment) -> i128 {
+    let on_egg = half_on_egg(random, road).filter(|_| random.chance(60));
+    on_egg.unwrap_or_else(|| halfway(random, road))
+}
+
+/// A station on an egg where curvature is an exact half, if there is one near a place drawn.
+fn half_on_egg(random: &mut Random, road: &Alignment) -> Option<i128> {
+    let eggs = eggs(&road.elements);
+    if eggs.is_empty() {
+        return None;
+    }
+    let egg = random.pick(&eggs);
+    let (first, last) = (road.elements[egg - 1].radius, road.elements[egg + 1].radius);
+    let length = road.elements[egg].length;
+    let is_half = |distance: &i128| {
+        let numerator = 2_000_000_000 * (last * (length - distance) + first * distance);
+        let denominator = first * last * length;
+        numerator % denominator == 0 && numerator / denominator % 2 != 0
+    };
+    let from = random.between(0, length);
+    let distance = (from..=length.min(from + 3_000)).find(is_half)?;
+    Some(road::element_starts(road)[egg] + distance)
+}
+
 fn random_station(random: &mut Random, road: Option<&Alignment>) -> u64 {
     let end = road.map_or(100_000, Alignment::total_length);
     let listed = |random: &mut Random| match road {
@@ -146,7 +172,7 @@ fn random_station(random: &mut Random, road: Option<&Alignment>) -> u64 {
         4..=5 => listed(random) + 1,
         6..=7 => (listed(random) - 1).max(0),
         8..=11 => random.between(0, end),
-        12..=13 => road.map_or(end, |road| halfway(random, road)),
+        12..=13 => road.map_or(end, |road| half(random, road)),
         14 => 0,
         15 => end,
         16 => end + 1,

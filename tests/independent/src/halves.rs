@@ -2,13 +2,14 @@
 
 use std::fmt;
 
+use crate::generate::valid::bends::eggs;
 use reference::file::Alignment;
 use reference::fraction::Fraction;
 use reference::road;
 
 type Rounded = (&'static str, fn(&Alignment, i128) -> Fraction);
 
-const ROUNDED: [Rounded; 7] = [
+const ROUNDED: [Rounded; 8] = [
     ("height", road::height),
     ("grade", road::grade),
     ("left crossfall", |r, s| road::crossfall(r, s, |p| p.left)),
@@ -16,7 +17,19 @@ const ROUNDED: [Rounded; 7] = [
     ("left drop", |r, s| road::drop(r, s, |p| p.left)),
     ("right drop", |r, s| road::drop(r, s, |p| p.right)),
     ("curvature", road::curvature),
+    ("curvature of an egg", curvature_of_egg),
 ];
+
+/// The curvature between the ends of an egg, elsewhere 0.
+fn curvature_of_egg(road: &Alignment, station: i128) -> Fraction {
+    let starts = road::element_starts(road);
+    let within = |&egg: &usize| starts[egg] < station && station < starts[egg + 1];
+    if eggs(&road.elements).iter().any(within) {
+        road::curvature(road, station)
+    } else {
+        Fraction::whole(0)
+    }
+}
 
 #[derive(Default)]
 pub struct Halves {

@@ -4,21 +4,25 @@ use std::fmt;
 
 use crate::generate::edges::EDGES;
 use crate::generate::features::{features, FEATURES};
+use crate::generate::valid::bends::{eggs, pairs};
 use crate::generate::{MadeFile, FILE_KINDS};
 use crate::halves::Halves;
-use reference::file::{Alignment, Refusal};
+use reference::file::{read, Alignment, Refusal};
 
 pub struct Summary {
     pub files: u64,
     pub files_of_kind: [u64; FILE_KINDS.len()],
     /// Files beginning with 9.
     pub dated_of_kind: [u64; FILE_KINDS.len()],
+    /// Files that can be read and have an egg, or a pair of clothoids.
+    pub egg_of_kind: [u64; FILE_KINDS.len()],
+    pub pair_of_kind: [u64; FILE_KINDS.len()],
     pub accepted_of_kind: [u64; FILE_KINDS.len()],
     /// Files not turned away that have each feature.
     pub features: [u64; FEATURES.len()],
     /// By refusal number.
-    pub refused_files: [u64; 23],
-    pub refused_calls: [u64; 23],
+    pub refused_files: [u64; 24],
+    pub refused_calls: [u64; 24],
     /// Files inside and outside of each limit.
     pub edges: [[u64; 2]; EDGES.len()],
     pub halves: Halves,
@@ -38,10 +42,12 @@ impl Summary {
             files: 0,
             files_of_kind: [0; FILE_KINDS.len()],
             dated_of_kind: [0; FILE_KINDS.len()],
+            egg_of_kind: [0; FILE_KINDS.len()],
+            pair_of_kind: [0; FILE_KINDS.len()],
             accepted_of_kind: [0; FILE_KINDS.len()],
             features: [0; FEATURES.len()],
-            refused_files: [0; 23],
-            refused_calls: [0; 23],
+            refused_files: [0; 24],
+            refused_calls: [0; 24],
             edges: [[0; 2]; EDGES.len()],
             halves: Halves::default(),
             row_calls: 0,
@@ -64,6 +70,10 @@ impl Summary {
         self.files += 1;
         self.files_of_kind[place] += 1;
         self.dated_of_kind[place] += u64::from(made.bytes.first() == Some(&9));
+        if let Ok(road) = read(&made.bytes) {
+            self.egg_of_kind[place] += u64::from(!eggs(&road.elements).is_empty());
+            self.pair_of_kind[place] += u64::from(!pairs(&road.elements).is_empty());
+        }
         match verdict {
             Err(refusal) => self.refused_files[refusal.number as usize] += 1,
             Ok(road) => {
@@ -82,24 +92,32 @@ impl Summary {
 
 impl fmt::Display for Summary {
     fn fmt(&self, to: &mut fmt::Formatter<'_>) -> fmt::Result {
-        writeln!(to, "kind            files     dated  accepted")?;
+        writeln!(
+            to,
+            "kind            files     dated  with egg with pair  accepted"
+        )?;
+        let counts = [
+            self.files_of_kind,
+            self.dated_of_kind,
+            self.egg_of_kind,
+            self.pair_of_kind,
+            self.accepted_of_kind,
+        ];
+        let row = |counts: [u64; 5]| counts.map(|count| format!("{count:>9}")).join(" ");
         for (place, (_, name, _)) in FILE_KINDS.iter().enumerate() {
-            let (files, dated) = (self.files_of_kind[place], self.dated_of_kind[place]);
-            let accepted = self.accepted_of_kind[place];
-            writeln!(to, "  {name:<10} {files:>9} {dated:>9} {accepted:>9}")?;
+            let of_kind = counts.map(|counts| counts[place]);
+            writeln!(to, "  {name:<10} {}", row(of_kind))?;
         }
-        let files = self.files;
-        let dated: u64 = self.dated_of_kind.iter().sum();
-        let accepted: u64 = self.accepted_of_kind.iter().sum();
-        writeln!(to, "  {:<10} {files:>9} {dated:>9} {accepted:>9}", "all")?;
+        let all = counts.map(|counts| counts.iter().sum());
+        writeln!(to, "  {:<10} {}", "all", row(all))?;
         writeln!(to, "refusal     files     calls")?;
-        for number in 1..=22 {
+        for number in 1..=23 {
             let (files, calls) = (self.refused_files[number], self.refused_calls[number]);
             writeln!(to, "{number:>7} {files:>9} {calls:>9}")?;
         }
-        writeln!(to, "limit                      inside   outside")?;
+        writeln!(to, "limit                       inside   outside")?;
         for (edge, [inside, outside]) in EDGES.iter().zip(self.edges) {
-            writeln!(to, "  {:<23} {inside:>7} {outside:>9}", edge.name)?;
+            writeln!(to, "  {:<24} {inside:>7} {outside:>9}", edge.name)?;
         }
         writeln!(to, "accepted files with               files")?;
         for ((name, _), count) in FEATURES.iter().zip(self.features) {

@@ -3,6 +3,7 @@
 use super::days::{day_or_none, random_contract};
 use super::numbers::{file, number_bytes};
 use super::random::Random;
+use super::valid::bends::{eggs, pairs, random_leads, Lead, EGG_RADIUS_MAX};
 use super::valid::plan::total;
 use super::valid::{divided_up, random_start_height};
 use reference::file::{Alignment, CrossfallPoint, Element, Kind, Tangent};
@@ -59,15 +60,21 @@ pub fn extreme(random: &mut Random) -> Vec<u8> {
             random.between(least, most.min(6))
         }
     };
-    let right_kinds = random.chance(85);
-    let mut element_count = count(random, 1, 200);
-    if right_kinds {
-        element_count -= (element_count - 1) % 4;
-    }
+    let element_count = count(random, 1, 200);
+    let kinds = if random.chance(85) {
+        right_kinds(random, element_count)
+    } else {
+        let any = [Kind::Straight, Kind::Arc, Kind::Clothoid];
+        (0..element_count).map(|_| random.pick(&any)).collect()
+    };
     let gentle = random.chance(60);
-    let elements: Vec<Element> = (0..element_count)
-        .map(|place| extreme_element(random, place, right_kinds, gentle))
+    let mut elements: Vec<Element> = kinds
+        .into_iter()
+        .map(|kind| extreme_element(random, kind, gentle))
         .collect();
+    if random.chance(80) {
+        mend_eggs_and_pairs(random, &mut elements);
+    }
     let mut tangents: Vec<Tangent> = (0..count(random, 1, 100))
         .map(|_| extreme_tangent(random, gentle))
         .collect();
@@ -104,16 +111,50 @@ pub fn extreme(random: &mut Random) -> Vec<u8> {
     })
 }
 
-fn extreme_element(random: &mut Random, place: i128, right_kind: bool, gentle: bool) -> Element {
-    let kind = if !right_kind {
-        random.pick(&[Kind::Straight, Kind::Arc, Kind::Clothoid])
-    } else {
-        match place % 4 {
-            0 => Kind::Straight,
-            2 => Kind::Arc,
-            _ => Kind::Clothoid,
+/// Kinds that run as refusal 7 wants them, more of them where more are asked for.
+fn right_kinds(random: &mut Random, count: i128) -> Vec<Kind> {
+    let leads = random_leads(random, (count / 2) as usize);
+    let mut kinds = vec![Kind::Straight];
+    for (place, lead) in leads.iter().enumerate() {
+        let between: &[Kind] = match lead {
+            _ if place == 0 => &[Kind::Clothoid],
+            Lead::Straight => &[Kind::Clothoid, Kind::Straight, Kind::Clothoid],
+            Lead::Egg => &[Kind::Clothoid],
+            Lead::Pair => &[Kind::Clothoid, Kind::Clothoid],
+        };
+        kinds.extend(between);
+        kinds.push(Kind::Arc);
+    }
+    if !leads.is_empty() {
+        kinds.extend([Kind::Clothoid, Kind::Straight]);
+    }
+    kinds
+}
+
+/// Gives the arcs beside eggs and pairs turns and radii that refusal 23 passes.
+fn mend_eggs_and_pairs(random: &mut Random, elements: &mut [Element]) {
+    let (eggs, pairs) = (eggs(elements), pairs(elements));
+    for place in 1..elements.len() {
+        if eggs.contains(&place) {
+            let before = &mut elements[place - 1].radius;
+            let (turn, size) = (before.signum(), before.abs().min(EGG_RADIUS_MAX));
+            *before = turn * size;
+            let least = if size < 300_000 { 10_000 } else { 300_000 };
+            let other = match random.between_or_bound(least, EGG_RADIUS_MAX) {
+                other if other != size => other,
+                10_000 => 10_001,
+                _ => size - 1,
+            };
+            elements[place + 1].radius = turn * other;
         }
-    };
+        if pairs.contains(&place) {
+            let turn = -elements[place - 2].radius.signum();
+            elements[place + 1].radius = turn * elements[place + 1].radius.abs();
+        }
+    }
+}
+
+fn extreme_element(random: &mut Random, kind: Kind, gentle: bool) -> Element {
     let (length, size) = if gentle {
         (
             random.between(60_000, 1_200_000),

@@ -1,16 +1,18 @@
 //! Damages to roads, numbers and bytes, alone or several at once.
 
 use super::days::{no_day, random_contract};
+use super::edges::bends::spoil;
 use super::edges::plan::change_kind;
 use super::numbers::{bytes_of, file, number_bytes, numbers, Number};
 use super::random::Random;
 use super::valid::alignment;
-use reference::file::{Alignment, Contract};
+use super::valid::bends::{eggs, pairs, places_of};
+use reference::file::{Alignment, Contract, Kind};
 use reference::limits::limits;
 
-const DAMAGES: [usize; 32] = [
+const DAMAGES: [usize; 34] = [
     0, 1, 2, 2, 2, 2, 2, 3, 3, 3, 4, 4, 5, 6, 6, 7, 7, 7, 8, 9, 10, 11, 12, 12, 13, 14, 14, 15, 16,
-    16, 16, 17,
+    16, 16, 17, 18, 18,
 ];
 
 /// One rule is broken, mostly by little.
@@ -20,10 +22,9 @@ pub fn damage_road(random: &mut Random, road: &mut Alignment) {
     let tangent = random.place(road.tangents.len());
     let point = random.place(road.points.len());
     let is_last_tangent = tangent + 1 == road.tangents.len();
-    let arc = match random.place((road.elements.len() - 1) / 4 + 1) {
-        0 => element,
-        bend => 4 * bend - 2,
-    };
+    let mut arcs = places_of(&road.elements, Kind::Arc);
+    arcs.push(element);
+    let arc = random.pick(&arcs);
     // What leaves T alone comes more often, so that the later rules compete.
     match random.pick(&DAMAGES) {
         0 => road.elements[element].length = random.between_or_bound(1, 10_000_000),
@@ -70,6 +71,13 @@ pub fn damage_road(random: &mut Random, road: &mut Alignment) {
         }
         16 => road.contract = random_contract(random),
         17 => road.contract = Contract::Dated(no_day(random)),
+        18 => {
+            let joined = [eggs(&road.elements), pairs(&road.elements)].concat();
+            if !joined.is_empty() {
+                let clothoid = random.pick(&joined);
+                spoil(random, &mut road.elements, clothoid);
+            }
+        }
         _ => {
             let elements = road.elements.len();
             road.elements.truncate(random.place(elements) + 1);

@@ -1,8 +1,9 @@
 //! What is special about a road that is not turned away, to see what the files reach.
 
-use super::valid::books::{least_clothoid_under, other_book};
+use super::valid::bends::{eggs, pairs, places_of, EGG_RADIUS_MAX};
+use super::valid::books::{limits_under, other_book};
 use super::valid::crossfall::arcs;
-use super::valid::plan::least_clothoid;
+use super::valid::plan::least_clothoid_at;
 use super::valid::profile::least_half_length;
 use reference::file::{Alignment, Contract, CrossfallPoint, Element, Kind};
 use reference::limits::{limits, rule_book, speed, LeastClothoid, Limits, RuleBook};
@@ -10,7 +11,7 @@ use reference::road;
 
 type Feature = (&'static str, fn(&Alignment, &Limits) -> bool);
 
-pub const FEATURES: [Feature; 71] = [
+pub const FEATURES: [Feature; 98] = [
     ("no contract date", |r, _| r.contract == Contract::Undated),
     ("a date under today's book", |r, _| {
         dated(r, |date| date >= 20120101)
@@ -41,6 +42,66 @@ pub const FEATURES: [Feature; 71] = [
     ("clothoid by length alone", |r, _| {
         clothoid_of_one_book(r, RuleBook::OldHandbook)
     }),
+    ("an egg", |r, _| egg(r, |_, _, _| true)),
+    ("an egg, right turn", |r, _| {
+        egg(r, |_, a, b| a > 0 && b > 0)
+    }),
+    ("an egg, left turn", |r, _| egg(r, |_, a, b| a < 0 && b < 0)),
+    ("an egg, sharper", |r, _| {
+        egg(r, |_, a, b| a.abs() > b.abs())
+    }),
+    ("an egg, wider", |r, _| egg(r, |_, a, b| a.abs() < b.abs())),
+    ("an egg, radius 1,000,000 first", |r, _| {
+        egg(r, |_, a, _| a.abs() == EGG_RADIUS_MAX)
+    }),
+    ("an egg, radius 1,000,000 last", |r, _| {
+        egg(r, |_, _, b| b.abs() == EGG_RADIUS_MAX)
+    }),
+    ("an egg, radii 1 apart", |r, _| {
+        egg(r, |_, a, b| (a - b).abs() == 1)
+    }),
+    ("an egg, radius at R min", |r, l| {
+        egg(r, |_, a, b| a.abs().min(b.abs()) == l.radius_min)
+    }),
+    ("an egg of 1", |r, _| egg(r, |length, _, _| length == 1)),
+    ("an egg at its min", |r, l| {
+        at_least_length(r, l, &eggs(&r.elements))
+    }),
+    ("an egg, just A min squared", egg_just_square),
+    ("two eggs in a row", |r, _| in_a_row(r, eggs, eggs, 2)),
+    ("a pair", |r, _| pair_of_clothoids(r, |_, _| true)),
+    ("a pair, right to left", |r, _| {
+        pair_of_clothoids(r, |a, b| a > 0 && b < 0)
+    }),
+    ("a pair, left to right", |r, _| {
+        pair_of_clothoids(r, |a, b| a < 0 && b > 0)
+    }),
+    ("a pair, equal radii", |r, _| {
+        pair_of_clothoids(r, |a, b| a == -b)
+    }),
+    ("a pair, radius over 1,000,000", |r, _| {
+        pair_of_clothoids(r, |a, b| a.abs().max(b.abs()) > EGG_RADIUS_MAX)
+    }),
+    ("a pair, first at its min", |r, l| {
+        at_least_length(
+            r,
+            l,
+            &pairs(&r.elements).iter().map(|p| p - 1).collect::<Vec<_>>(),
+        )
+    }),
+    ("a pair, second at its min", |r, l| {
+        at_least_length(r, l, &pairs(&r.elements))
+    }),
+    ("two pairs in a row", |r, _| in_a_row(r, pairs, pairs, 3)),
+    ("a pair after an egg", |r, _| in_a_row(r, eggs, pairs, 3)),
+    ("an egg after a pair", |r, _| in_a_row(r, pairs, eggs, 2)),
+    ("short straight beside a pair", short_straight_beside_pair),
+    ("crossfall changes on an egg", |r, _| {
+        crossfall_on_egg(r, |change| change != 0)
+    }),
+    ("crossfall stays on an egg", |r, _| {
+        crossfall_on_egg(r, |change| change == 0)
+    }),
     ("40 km/h", |r, _| speed(r.class, r.terrain) == 40),
     ("50 km/h", |r, _| speed(r.class, r.terrain) == 50),
     ("60 km/h", |r, _| speed(r.class, r.terrain) == 60),
@@ -63,6 +124,7 @@ pub const FEATURES: [Feature; 71] = [
     ("1 element", |r, _| r.elements.len() == 1),
     ("5 elements", |r, _| r.elements.len() == 5),
     ("197 elements", |r, _| r.elements.len() == 197),
+    ("200 elements", |r, _| r.elements.len() == 200),
     ("T = 100,000,000", |r, _| r.total_length() == 100_000_000),
     ("T below step", |r, _| r.total_length() < r.step),
     ("an element of 1", |r, _| any(r, |e| e.length == 1)),
@@ -165,23 +227,89 @@ fn straight(road: &Alignment, length: Option<i128>) -> bool {
 }
 
 fn clothoid_at_min(road: &Alignment, limits: &Limits) -> bool {
-    (0..road.elements.len()).any(|place| {
-        let element = road.elements[place];
-        element.kind == Kind::Clothoid
-            && element.length == least_clothoid(limits, road::arc_of_clothoid(road, place).radius)
+    at_least_length(road, limits, &places_of(&road.elements, Kind::Clothoid))
+}
+
+/// One of the clothoids at these places is as short as it may be.
+fn at_least_length(road: &Alignment, limits: &Limits, clothoids: &[usize]) -> bool {
+    clothoids.iter().any(|&place| {
+        road.elements[place].length == least_clothoid_at(limits, &road.elements, place)
     })
+}
+
+/// An egg of such a length between such radii.
+fn egg(road: &Alignment, has: impl Fn(i128, i128, i128) -> bool) -> bool {
+    let elements = &road.elements;
+    eggs(elements).iter().any(|&place| {
+        let (before, after) = (elements[place - 1].radius, elements[place + 1].radius);
+        has(elements[place].length, before, after)
+    })
+}
+
+fn egg_just_square(road: &Alignment, limits: &Limits) -> bool {
+    let LeastClothoid::Parameter(parameter) = limits.clothoid else {
+        return false;
+    };
+    egg(road, |length, before, after| {
+        length * before * after == parameter * parameter * (before - after).abs()
+    })
+}
+
+/// A pair between such radii.
+fn pair_of_clothoids(road: &Alignment, has: impl Fn(i128, i128) -> bool) -> bool {
+    let elements = &road.elements;
+    pairs(elements)
+        .iter()
+        .any(|&second| has(elements[second - 2].radius, elements[second + 1].radius))
+}
+
+/// A place of one list and, so many elements later, one of another.
+fn in_a_row(
+    road: &Alignment,
+    first: fn(&[Element]) -> Vec<usize>,
+    then: fn(&[Element]) -> Vec<usize>,
+    distance: usize,
+) -> bool {
+    let later = then(&road.elements);
+    let mut places = first(&road.elements).into_iter();
+    places.any(|place| later.contains(&(place + distance)))
+}
+
+/// A straight that is too short between arcs of one turn, with a reversing bend directly before or after it.
+fn short_straight_beside_pair(road: &Alignment, limits: &Limits) -> bool {
+    let elements = &road.elements;
+    let pairs = pairs(elements);
+    let is_short = |straight: &usize| {
+        let length = elements[*straight].length;
+        limits.straight_min.is_some_and(|least| length < least)
+    };
+    let inner = 1..elements.len() - 1;
+    let mut straights = places_of(elements, Kind::Straight).into_iter();
+    straights.any(|straight| {
+        // From a pair's second clothoid on: arc, clothoid, straight, clothoid, arc, clothoid, clothoid.
+        let before = straight.checked_sub(3).is_some_and(|p| pairs.contains(&p));
+        let after = pairs.contains(&(straight + 4));
+        inner.contains(&straight) && is_short(&straight) && (before || after)
+    })
+}
+
+/// An egg along which the left crossfall changes by so much.
+fn crossfall_on_egg(road: &Alignment, has: impl Fn(i128) -> bool) -> bool {
+    let starts = road::element_starts(road);
+    let left = |station| road::crossfall(road, station, |point| point.left).rounded();
+    eggs(&road.elements)
+        .iter()
+        .any(|&egg| has(left(starts[egg + 1]) - left(starts[egg])))
 }
 
 /// A road of a rule book with a clothoid that the other one would refuse.
 fn clothoid_of_one_book(road: &Alignment, book: RuleBook) -> bool {
-    let other = other_book(book);
-    let speed = speed(road.class, road.terrain);
-    let too_short = |place: usize| {
-        let radius = road::arc_of_clothoid(road, place).radius;
-        road.elements[place].length < least_clothoid_under(other, speed, radius)
+    let other = limits_under(other_book(book), speed(road.class, road.terrain));
+    let too_short = |&place: &usize| {
+        road.elements[place].length < least_clothoid_at(&other, &road.elements, place)
     };
-    let mut clothoids = (1..road.elements.len()).step_by(2);
-    rule_book(road.contract) == book && clothoids.any(too_short)
+    let clothoids = places_of(&road.elements, Kind::Clothoid);
+    rule_book(road.contract) == book && clothoids.iter().any(too_short)
 }
 
 fn end_height(road: &Alignment) -> i128 {

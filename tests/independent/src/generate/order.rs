@@ -1,15 +1,21 @@
-//! Roads that break two rules, so that "the lowest refusal wins" is seen for every pair.
+//! Roads that break two rules, so that "the lowest refusal wins" is seen for every pair; 23 comes between 7 and 8.
 
 use super::days::random_contract;
+use super::edges::bends::spoil;
 use super::head::Head;
 use super::numbers::file;
 use super::random::Random;
-use super::valid::plan::{least_clothoid, plan_of_radii};
+use super::valid::bends::{egg_radius, eggs, pairs, places_of, Bend, Lead};
+use super::valid::plan::{least_clothoid_at, plan_of};
 use super::valid::{upon_plan, Size, LONGEST_LENGTH};
 use reference::file::{Alignment, Element, Kind};
 use reference::limits::Limits;
 
-/// A road of bends to one side that breaks two or three of the rules 5 to 19.
+const RULES: [i128; 17] = [
+    5, 6, 7, 23, 23, 8, 9, 10, 11, 12, 13, 14, 15, 16, 17, 18, 19,
+];
+
+/// A road whose straights lie between arcs of one turn, that breaks two or three of the rules 5 to 19 and 23.
 pub fn rules_broken_together(random: &mut Random) -> Vec<u8> {
     let (class, terrain) = random.pick(&[(1, 1), (1, 3), (2, 2), (2, 3), (3, 1), (3, 2), (4, 1)]);
     let contract = random_contract(random);
@@ -20,13 +26,10 @@ pub fn rules_broken_together(random: &mut Random) -> Vec<u8> {
     };
     let limits = head.limits();
     let count = random.between(2, 3);
-    let broken: Vec<i128> = (0..count).map(|_| random.between(5, 19)).collect();
-    let size = Size::with_bends(random, 2, 6);
-    let turn = random.sign();
-    let radii: Vec<i128> = (0..size.bends)
-        .map(|_| turn * random.between(limits.radius_min, 4 * limits.radius_min))
-        .collect();
-    let mut elements = plan_of_radii(random, &limits, &size, &radii);
+    let broken: Vec<i128> = (0..count).map(|_| random.pick(&RULES)).collect();
+    let size = Size::with_bends(random, 3, 6);
+    let bends = bends_of_one_turn(random, &limits, size.bends);
+    let mut elements = plan_of(random, &limits, &size, &bends);
     for &rule in &broken {
         break_plan(random, &limits, &mut elements, rule);
     }
@@ -37,14 +40,38 @@ pub fn rules_broken_together(random: &mut Random) -> Vec<u8> {
     file(&road)
 }
 
+/// Arcs of which a pair alone changes the turn; there is a straight between two of them, and an egg or a pair
+/// mostly.
+fn bends_of_one_turn(random: &mut Random, limits: &Limits, count: usize) -> Vec<Bend> {
+    let inner_straight = 1 + random.place(count - 1);
+    let mut turn = random.sign();
+    let mut bends: Vec<Bend> = Vec::new();
+    for place in 0..count {
+        let lead = match place {
+            0 => Lead::Straight,
+            _ if place == inner_straight => Lead::Straight,
+            _ => random.pick(&[Lead::Straight, Lead::Egg, Lead::Pair]),
+        };
+        if lead == Lead::Pair {
+            turn = -turn;
+        }
+        let before = bends.last().map(|bend| bend.radius.abs());
+        let radius = turn * egg_radius(random, limits, false, before);
+        bends.push(Bend { lead, radius });
+    }
+    bends
+}
+
 /// Rules 8 to 12, before profile and crossfalls are laid upon the plan.
 fn break_plan(random: &mut Random, limits: &Limits, elements: &mut [Element], rule: i128) {
-    let bends = (elements.len() - 1) / 4;
-    let arc = 4 * random.place(bends) + 2;
-    let inner_straight = 4 * (1 + random.place(bends - 1));
-    let straight = 4 * random.place(bends + 1);
+    let arc = random.pick(&places_of(elements, Kind::Arc));
+    let straights = places_of(elements, Kind::Straight);
+    let inner_straight = random.pick(&straights[1..straights.len() - 1]);
     match rule {
-        8 => elements[straight].length = limits.straight_max.expect("a row with it") + 1,
+        8 => {
+            let straight = random.pick(&straights);
+            elements[straight].length = limits.straight_max.expect("a row with it") + 1;
+        }
         9 => elements[inner_straight].length = limits.straight_min.expect("a row with it") - 1,
         10 => {
             let radius = &mut elements[arc].radius;
@@ -53,7 +80,8 @@ fn break_plan(random: &mut Random, limits: &Limits, elements: &mut [Element], ru
         11 => elements[arc].length = limits.arc_min - 1,
         12 => {
             let clothoid = random.pick(&[arc - 1, arc + 1]);
-            elements[clothoid].length = least_clothoid(limits, elements[arc].radius) - 1;
+            let least = least_clothoid_at(limits, elements, clothoid);
+            elements[clothoid].length = (least - 1).max(1);
         }
         _ => {}
     }
@@ -76,6 +104,13 @@ fn break_road(random: &mut Random, limits: &Limits, road: &mut Alignment, rule: 
         7 => {
             let place = random.place(road.elements.len());
             road.elements[place].kind = Kind::Straight;
+        }
+        23 => {
+            let joined = [eggs(&road.elements), pairs(&road.elements)].concat();
+            if !joined.is_empty() {
+                let clothoid = random.pick(&joined);
+                spoil(random, &mut road.elements, clothoid);
+            }
         }
         13 => road.tangents[tangent].grade = random.sign() * (limits.grade_max + 1),
         14 if vertices > 0 => {

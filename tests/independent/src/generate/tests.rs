@@ -1,15 +1,19 @@
 //! The generator itself: what it makes, and that it reaches everything.
 
+use super::absurd::extreme;
 use super::days::{contract_under, day_or_none};
+use super::edges::plan::change_kind;
 use super::edges::EDGES;
 use super::numbers::{file, numbers};
 use super::random::Random;
 use super::valid::alignment;
+use super::valid::bends::{eggs, kinds_run, pairs};
 use super::{make_file, FileKind};
 use reference::day::is_day;
 use reference::file::{read, GREATEST_NUMBER};
 use reference::limits::{rule_book, RuleBook};
 use reference::machine::accept;
+use reference::rules::judge_all;
 
 #[test]
 fn valid_roads_are_accepted() {
@@ -18,6 +22,19 @@ fn valid_roads_are_accepted() {
         let bytes = file(&alignment(&mut random));
         assert!(accept(&bytes).is_ok(), "index {index}");
     }
+}
+
+#[test]
+fn many_valid_roads_have_eggs_and_pairs() {
+    let mut counts = [0; 3];
+    for index in 0..3_000 {
+        let road = alignment(&mut Random::for_file(29, index));
+        let has = [eggs(&road.elements), pairs(&road.elements)].map(|places| !places.is_empty());
+        counts[0] += u64::from(has[0]);
+        counts[1] += u64::from(has[1]);
+        counts[2] += u64::from(has == [false, false]);
+    }
+    assert!(counts.iter().all(|&count| count > 600), "{counts:?}");
 }
 
 #[test]
@@ -52,6 +69,27 @@ fn a_file_is_made_again_from_seed_and_index() {
         let make = || make_file(&mut Random::for_file(3, index), None).bytes;
         assert_eq!(make(), make());
     }
+}
+
+/// The generator's own word on the kinds against the reference's.
+#[test]
+fn kinds_run_where_refusal_7_passes_them() {
+    let mut counts = [0; 2];
+    for index in 0..20_000 {
+        let mut random = Random::for_file(23, index);
+        let Ok(mut road) = read(&extreme(&mut random)) else {
+            continue;
+        };
+        if random.chance(50) {
+            let place = random.place(road.elements.len());
+            change_kind(&mut random, &mut road.elements[place]);
+        }
+        let broken = judge_all(&road).broken;
+        let refused = broken.iter().any(|refusal| refusal.number == 7);
+        assert_eq!(kinds_run(&road.elements), !refused, "index {index}");
+        counts[usize::from(refused)] += 1;
+    }
+    assert!(counts.iter().all(|&count| count > 3_000), "{counts:?}");
 }
 
 #[test]

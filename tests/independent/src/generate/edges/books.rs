@@ -1,11 +1,12 @@
 //! Roads that one rule book passes and the other refuses: inside they stand under the one, outside under the other.
 
+use super::bends::egg_below;
 use super::plan::{changed_plan, random_arc, set_clothoid};
 use super::{accepted_or, Made};
 use crate::generate::days::contract_under;
 use crate::generate::head::Head;
 use crate::generate::random::Random;
-use crate::generate::valid::books::{least_clothoid_under, other_book};
+use crate::generate::valid::books::{least_clothoid_under, limits_under, other_book};
 use crate::generate::valid::plan::plan_of_radii;
 use crate::generate::valid::{upon_plan, Size};
 use reference::file::Contract;
@@ -46,7 +47,7 @@ pub fn clothoid_of_today(random: &mut Random, outside: bool) -> Made {
         ..Head::random(random)
     };
     changed_plan(random, outside, 12, head, 1, |random, _, elements, _| {
-        let arc = random_arc(random, elements);
+        let arc = random_arc(random, elements)?;
         let radius = &mut elements[arc].radius;
         let least = |book, radius| least_clothoid_under(book, head.speed(), radius);
         let longest = least(OldHandbook, *radius) - 1;
@@ -55,8 +56,18 @@ pub fn clothoid_of_today(random: &mut Random, outside: bool) -> Made {
             *radius *= 2;
         }
         let length = random.between_or_bound(least(Today, *radius), longest);
-        set_clothoid(random, elements, arc, length);
+        Some(set_clothoid(random, elements, arc, length))
     })
+}
+
+/// An egg that is long enough for A min, and too short for the old handbook.
+pub fn egg_of_today(random: &mut Random, outside: bool) -> Made {
+    let head = Head {
+        contract: contract(random, outside, Today),
+        ..Head::random(random)
+    };
+    let [today, old] = [Today, OldHandbook].map(|book| limits_under(book, head.speed()));
+    egg_below(random, outside, head, &today, &old)
 }
 
 /// A clothoid that is long enough for the old handbook, and too short for A min: at 50 km/h alone, and there
@@ -69,7 +80,7 @@ pub fn clothoid_of_old_handbook(random: &mut Random, outside: bool) -> Made {
         terrain,
     };
     changed_plan(random, outside, 12, head, 1, |random, _, elements, _| {
-        let arc = random_arc(random, elements);
+        let arc = random_arc(random, elements)?;
         let radius = &mut elements[arc].radius;
         *radius = radius.signum() * random.between_or_bound(75_000, 75_624);
         let least = |book| least_clothoid_under(book, 50, *radius);
@@ -78,6 +89,6 @@ pub fn clothoid_of_old_handbook(random: &mut Random, outside: bool) -> Made {
             elements[clothoid].length = elements[clothoid].length.max(longest + 1);
         }
         let length = random.between_or_bound(shortest, longest);
-        set_clothoid(random, elements, arc, length);
+        Some(set_clothoid(random, elements, arc, length))
     })
 }

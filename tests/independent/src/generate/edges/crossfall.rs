@@ -3,8 +3,9 @@
 use super::{accepted_or, road_with, Made};
 use crate::generate::head::Head;
 use crate::generate::random::Random;
+use crate::generate::valid::bends::{bends_of_turns, Bend, Lead};
 use crate::generate::valid::crossfall::{arcs, point, superelevation, Crossfall};
-use crate::generate::valid::plan::plan_of_radii;
+use crate::generate::valid::plan::plan_of;
 use crate::generate::valid::{
     alignment, alignment_of, upon_plan, Size, LONGEST_LENGTH, LONGEST_PLAN,
 };
@@ -245,10 +246,12 @@ fn level_road(random: &mut Random, crossfall: impl Fn(i128) -> Crossfall) -> Ali
     let size = Size::with_bends(random, 1, 5);
     let limits = head.limits();
     let turn = random.sign();
-    let radii: Vec<i128> = (0..size.bends)
-        .map(|_| turn * random.between_or_bound(limits.radius_min, LONGEST_LENGTH))
+    let mut turns: Vec<(Lead, i128)> = (0..size.bends)
+        .map(|_| (random.pick(&[Lead::Straight, Lead::Egg]), turn))
         .collect();
-    let elements = plan_of_radii(random, &limits, &size, &radii);
+    turns[0].0 = Lead::Straight;
+    let bends = bends_of_turns(random, &limits, &turns);
+    let elements = plan_of(random, &limits, &size, &bends);
     let mut alignment = upon_plan(random, head, elements, &size);
     let end = alignment.total_length();
     let everywhere = crossfall(turn);
@@ -306,7 +309,18 @@ pub fn both_falling(random: &mut Random, outside: bool) -> Made {
             ]);
         }
     }
-    let elements = plan_of_radii(random, &limits, &size, &radii);
+    let mut bends: Vec<Bend> = Vec::new();
+    for radius in radii {
+        let reverses = bends
+            .last()
+            .is_some_and(|before| before.radius * radius < 0);
+        let lead = match reverses {
+            true => random.pick(&[Lead::Straight, Lead::Pair]),
+            false => Lead::Straight,
+        };
+        bends.push(Bend { lead, radius });
+    }
+    let elements = plan_of(random, &limits, &size, &bends);
     let mut alignment = upon_plan(random, head, elements, &size);
     let end = alignment.total_length();
     alignment.points = vec![point(0, crossfall), point(end, crossfall)];

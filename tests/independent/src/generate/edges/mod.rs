@@ -1,5 +1,6 @@
 //! Files at both sides of each limit: just inside, and just outside.
 
+pub mod bends;
 mod books;
 mod crossfall;
 mod date;
@@ -78,10 +79,10 @@ const fn bound(name: &'static str, field: Field, value: i128, beyond: i128) -> E
 /// Where the limits of the contract date are.
 pub const DATES: Range<usize> = 6..18;
 
-/// Where the limits of refusals 5 to 19 begin.
+/// Where the limits of refusals 5 to 19 and 23 begin.
 pub const FIRST_RULE: usize = 52;
 
-pub const EDGES: [Edge; 87] = [
+pub const EDGES: [Edge; 110] = [
     edge("1 longest file", shape::longest_file),
     edge("2 breaks off", shape::breaks_off),
     edge("2 shortest form", shape::shortest_form),
@@ -140,9 +141,26 @@ pub const EDGES: [Edge; 87] = [
     edge("7 kind", plan::wrong_kind),
     edge("7 stops short", plan::stops_short),
     edge("7 most elements", plan::most_elements),
+    edge("7 pair after a straight", bends::pair_after_straight),
+    edge("7 pair before a straight", bends::pair_before_straight),
+    edge("7 three clothoids", bends::three_clothoids),
+    edge("7 short after an egg", bends::short_after_egg),
+    edge("7 short after a pair", bends::short_after_pair),
+    edge("23 equal radii", bends::equal_radii),
+    edge("23 turns of an egg", bends::turns_of_egg),
+    edge("23 radius before egg", bends::radius_before_egg),
+    edge("23 radius after egg", bends::radius_after_egg),
+    edge("23 turns of a pair", bends::turns_of_pair),
+    edge("23 pair made one", bends::pair_made_one),
+    edge("23 egg made two", bends::egg_made_two),
+    edge("23 first of several", bends::first_of_several),
+    edge("23 before 8", bends::before_8),
+    edge("23 after 7", bends::after_7),
     edge("8 straight max", plan::straight_max),
     edge("9 straight min", plan::straight_min),
     edge("9 turns", plan::turns),
+    edge("9 nearest arcs", bends::nearest_arcs),
+    edge("9 nearest turns", bends::nearest_turns),
     edge("10 R min", plan::radius_min),
     edge("10 at 70 of one book", books::radius_at_70),
     edge("11 arc min", plan::arc_min),
@@ -150,6 +168,12 @@ pub const EDGES: [Edge; 87] = [
     edge("12 just the square", plan::clothoid_square),
     edge("12 by A min alone", books::clothoid_of_today),
     edge("12 by length alone", books::clothoid_of_old_handbook),
+    edge("12 egg min", bends::egg_min),
+    edge("12 egg, just the square", bends::egg_square),
+    edge("12 egg by A min alone", books::egg_of_today),
+    edge("12 first of a pair", bends::first_of_pair),
+    edge("12 second of a pair", bends::second_of_pair),
+    edge("12 own arc of a pair", bends::own_arc_of_pair),
     edge("13 grade max", profile::grade_max),
     edge("14 tangent and halves", profile::tangent_and_halves),
     edge("15 sag", profile::sag),
@@ -182,6 +206,18 @@ fn refused(alignment: &Alignment, number: i128) -> Made {
 fn accepted_or(outside: bool, alignment: &Alignment, number: i128) -> Made {
     if outside {
         refused(alignment, number)
+    } else {
+        accepted(alignment)
+    }
+}
+
+fn refused_at(alignment: &Alignment, number: i128, place: usize) -> Made {
+    (file(alignment), Expected::RefusedAt(number, place))
+}
+
+fn accepted_or_at(outside: bool, alignment: &Alignment, number: i128, place: usize) -> Made {
+    if outside {
+        refused_at(alignment, number, place)
     } else {
         accepted(alignment)
     }

@@ -1,10 +1,13 @@
 //! Refusals 5 to 12: lengths, kinds, straights, arcs and clothoids.
 
-use super::{accepted, accepted_or, refused, road_with, Made};
+use super::{accepted, accepted_or, accepted_or_at, refused, road_with, Made};
 use crate::generate::days::contract_under;
 use crate::generate::head::Head;
 use crate::generate::random::Random;
-use crate::generate::valid::plan::{least_clothoid, plan, plan_of_radii, stretch, total};
+use crate::generate::valid::bends::{
+    arcs_without_egg, bends_of_leads, element_count, kinds_run, places_of, random_leads, Lead,
+};
+use crate::generate::valid::plan::{least_clothoid, plan, plan_of, plan_of_radii, stretch, total};
 use crate::generate::valid::{
     alignment, alignment_of, upon_plan, Size, LONGEST_LENGTH, LONGEST_PLAN,
 };
@@ -78,10 +81,19 @@ pub fn tangents_sum(random: &mut Random, outside: bool) -> Made {
 pub fn wrong_kind(random: &mut Random, outside: bool) -> Made {
     let mut alignment = alignment(random);
     if outside {
-        let place = random.place(alignment.elements.len());
-        change_kind(random, &mut alignment.elements[place]);
+        wrong_kinds(random, &mut alignment.elements);
     }
     accepted_or(outside, &alignment, 7)
+}
+
+/// Changes the kind of an element so that the kinds do not run as refusal 7 wants them.
+pub fn wrong_kinds(random: &mut Random, elements: &mut [Element]) {
+    let before = elements.to_vec();
+    while kinds_run(elements) {
+        elements.copy_from_slice(&before);
+        let place = random.place(elements.len());
+        change_kind(random, &mut elements[place]);
+    }
 }
 
 pub fn change_kind(random: &mut Random, element: &mut Element) {
@@ -97,35 +109,38 @@ pub fn stops_short(random: &mut Random, outside: bool) -> Made {
     let head = Head::random(random);
     let size = Size::with_bends(random, 1, 49);
     let mut alignment = alignment_of(random, head, &size);
-    if outside {
-        // The last elements are left out; their length goes to others.
-        let end = alignment.total_length();
-        let fewer = random.between(1, 3) as usize;
-        let kept = alignment.elements.len() - fewer;
-        alignment.elements.truncate(kept);
-        let mut missing = end - total(&alignment.elements);
-        for element in &mut alignment.elements {
-            let more = missing.min(LONGEST_LENGTH - element.length);
-            element.length += more;
-            missing -= more;
-        }
-        if missing > 0 {
-            return stops_short(random, outside);
-        }
+    let kept = alignment.elements.len() - random.between(1, 3) as usize;
+    if outside && !cut_off(&mut alignment.elements, kept) {
+        return stops_short(random, outside);
     }
-    accepted_or(outside, &alignment, 7)
+    accepted_or_at(outside, &alignment, 7, kept)
 }
 
-/// 197 elements pass; 198 to 200 stop short.
+/// Leaves out the last elements and gives their length to others; whether there was room for it.
+pub fn cut_off(elements: &mut Vec<Element>, kept: usize) -> bool {
+    let end = total(elements);
+    elements.truncate(kept);
+    let mut missing = end - total(elements);
+    for element in elements {
+        let more = missing.min(LONGEST_LENGTH - element.length);
+        element.length += more;
+        missing -= more;
+    }
+    missing == 0
+}
+
+/// 200 elements pass where an odd count of pairs is among them; or up to three more, 200 at most, stop short.
 pub fn most_elements(random: &mut Random, outside: bool) -> Made {
     let head = Head::random(random);
     let size = Size::with_bends(random, 49, 49);
     let limits = head.limits();
-    let elements = plan(random, &limits, &size);
+    let more = if outside { random.between(1, 3) } else { 0 } as usize;
+    let leads = leads_of_count(random, 200 - more);
+    let bends = bends_of_leads(random, &limits, &leads);
+    let elements = plan_of(random, &limits, &size, &bends);
     let mut alignment = upon_plan(random, head, elements, &size);
     if outside {
-        let more = random.between(1, 3) as usize;
-        let shortened = &mut alignment.elements[196];
+        let shortened = alignment.elements.last_mut().expect("an element");
         if shortened.length <= more as i128 {
             return most_elements(random, outside);
         }
@@ -139,29 +154,50 @@ pub fn most_elements(random: &mut Random, outside: bool) -> Made {
             });
         }
     }
-    accepted_or(outside, &alignment, 7)
+    accepted_or_at(outside, &alignment, 7, 200)
 }
 
-/// A plan with one thing changed, then profile and crossfalls upon it.
+/// What leads to the arcs of a plan of so many elements.
+fn leads_of_count(random: &mut Random, elements: usize) -> Vec<Lead> {
+    loop {
+        let mut leads = random_leads(random, 49);
+        let place = 1 + random.place(leads.len() - 1);
+        leads[place] = Lead::Pair;
+        while element_count(&leads) > elements {
+            leads.pop();
+        }
+        if element_count(&leads) == elements {
+            return leads;
+        }
+    }
+}
+
+/// A plan with one thing changed, then profile and crossfalls upon it. The change tells the place of what it
+/// changed, or that the plan has none.
 pub fn changed_plan(
     random: &mut Random,
     outside: bool,
     number: i128,
     head: Head,
     least_bends: i128,
-    change: impl Fn(&mut Random, &Limits, &mut Vec<Element>, i128),
+    change: impl Fn(&mut Random, &Limits, &mut Vec<Element>, i128) -> Option<usize>,
 ) -> Made {
     let size = Size::with_bends(random, least_bends, 5);
     let limits = head.limits();
-    let mut elements = plan(random, &limits, &size);
     let beyond = if outside { 1 } else { 0 };
-    change(random, &limits, &mut elements, beyond);
-    let alignment = upon_plan(random, head, elements, &size);
-    accepted_or(outside, &alignment, number)
+    loop {
+        let mut elements = plan(random, &limits, &size);
+        if let Some(place) = change(random, &limits, &mut elements, beyond) {
+            let alignment = upon_plan(random, head, elements, &size);
+            return accepted_or_at(outside, &alignment, number, place);
+        }
+    }
 }
 
-pub fn random_arc(random: &mut Random, elements: &[Element]) -> usize {
-    2 + 4 * random.place((elements.len() - 1) / 4)
+/// An arc without an egg beside it.
+pub fn random_arc(random: &mut Random, elements: &[Element]) -> Option<usize> {
+    let arcs = arcs_without_egg(elements);
+    (!arcs.is_empty()).then(|| random.pick(&arcs))
 }
 
 pub fn straight_max(random: &mut Random, outside: bool) -> Made {
@@ -173,8 +209,9 @@ pub fn straight_max(random: &mut Random, outside: bool) -> Made {
         head,
         0,
         |random, limits, elements, beyond| {
-            let place = 4 * random.place(elements.len().div_ceil(4));
+            let place = random.pick(&places_of(elements, Kind::Straight));
             elements[place].length = limits.straight_max.expect("a row with it") + beyond;
+            Some(place)
         },
     )
 }
@@ -219,13 +256,14 @@ pub fn radius_min(random: &mut Random, outside: bool) -> Made {
         head,
         1,
         |random, limits, elements, beyond| {
-            let place = random_arc(random, elements);
+            let place = random_arc(random, elements)?;
             let sign = elements[place].radius.signum();
             elements[place].radius = sign * (limits.radius_min - beyond);
             for clothoid in [place - 1, place + 1] {
                 let least = least_clothoid(limits, elements[place].radius);
                 elements[clothoid].length = elements[clothoid].length.max(least);
             }
+            Some(place)
         },
     )
 }
@@ -239,8 +277,9 @@ pub fn arc_min(random: &mut Random, outside: bool) -> Made {
         head,
         1,
         |random, limits, elements, beyond| {
-            let place = random_arc(random, elements);
+            let place = random.pick(&places_of(elements, Kind::Arc));
             elements[place].length = limits.arc_min - beyond;
+            Some(place)
         },
     )
 }
@@ -254,27 +293,37 @@ pub fn clothoid_min(random: &mut Random, outside: bool) -> Made {
         head,
         1,
         |random, limits, elements, beyond| {
-            let arc = random_arc(random, elements);
+            let arc = random_arc(random, elements)?;
             let length = least_clothoid(limits, elements[arc].radius) - beyond;
-            set_clothoid(random, elements, arc, length);
+            Some(set_clothoid(random, elements, arc, length))
         },
     )
 }
 
-/// Gives a clothoid beside an arc its length.
-pub fn set_clothoid(random: &mut Random, elements: &mut [Element], arc: usize, length: i128) {
+/// Gives a clothoid beside an arc its length; the clothoid's place.
+pub fn set_clothoid(
+    random: &mut Random,
+    elements: &mut [Element],
+    arc: usize,
+    length: i128,
+) -> usize {
     let clothoid = random.pick(&[arc - 1, arc + 1]);
     let before = elements[clothoid].length;
     elements[clothoid].length = length;
-    // The clothoid beyond the straight keeps the room that the crossfall needs.
-    let fellow = if clothoid < arc {
-        clothoid.checked_sub(2)
-    } else {
-        Some(clothoid + 2)
+    // The clothoid beyond the straight, or the other one of a pair, keeps the room that the crossfall needs.
+    let is_clothoid = |place: &usize| {
+        let element = elements.get(*place);
+        element.is_some_and(|element| element.kind == Kind::Clothoid)
     };
-    if let Some(fellow) = fellow.and_then(|fellow| elements.get_mut(fellow)) {
-        fellow.length = (fellow.length + before).min(LONGEST_LENGTH);
+    let beyond = if clothoid < arc {
+        [clothoid.checked_sub(1), clothoid.checked_sub(2)]
+    } else {
+        [Some(clothoid + 1), Some(clothoid + 2)]
+    };
+    if let Some(fellow) = beyond.into_iter().flatten().find(is_clothoid) {
+        elements[fellow].length = (elements[fellow].length + before).min(LONGEST_LENGTH);
     }
+    clothoid
 }
 
 /// Length times radius is A min squared, or 1 below.

@@ -49,6 +49,7 @@ pub fn crossfalls(
     }
     let least = arcs
         .windows(2)
+        .filter(|pair| !pair[1].of_egg)
         .map(|pair| divided_up(limits.lane_width * 50_000, pair[1].start - pair[0].end))
         .max()
         .unwrap_or(1);
@@ -84,18 +85,22 @@ pub struct ArcOfPlan {
     pub start: i128,
     pub end: i128,
     pub radius: i128,
+    /// An egg leads to it from an arc of the same turn: no crossfall needs to change between the two.
+    pub of_egg: bool,
 }
 
 pub fn arcs(elements: &[Element]) -> Vec<ArcOfPlan> {
     let mut start = 0;
     let mut arcs = Vec::new();
-    for element in elements {
+    for (place, element) in elements.iter().enumerate() {
         let end = start + element.length;
         if element.kind == Kind::Arc {
+            let before = place.checked_sub(2).map(|before| elements[before]);
             arcs.push(ArcOfPlan {
                 start,
                 end,
                 radius: element.radius,
+                of_egg: before.is_some_and(|before| before.radius * element.radius > 0),
             });
         }
         start = end;
@@ -118,17 +123,18 @@ fn crossfalls_on_arcs(
     arcs: &[ArcOfPlan],
     ramp_limit: i128,
 ) -> Vec<Crossfall> {
-    let half_swing = |zone: i128| ramp_limit * zone / limits.lane_width / 2;
-    let mut on_arcs = Vec::new();
+    let swing = |zone: i128| ramp_limit * zone / limits.lane_width;
+    let mut on_arcs: Vec<Crossfall> = Vec::new();
     for (place, arc) in arcs.iter().enumerate() {
-        let mut most = 70_000;
-        if place > 0 {
-            most = most.min(half_swing(arc.start - arcs[place - 1].end));
+        let most = greatest_size(arcs, place, |zone| swing(zone) / 2);
+        let (mut low, mut high) = (25_000, most);
+        if arc.of_egg {
+            // Arcs beside an egg are superelevated: their radii do not reach R'.
+            let before = on_arcs[place - 1].0.abs();
+            let change = swing(arc.start - arcs[place - 1].end);
+            (low, high) = (low.max(before - change), high.min(before + change));
         }
-        if let Some(next) = arcs.get(place + 1) {
-            most = most.min(half_swing(next.start - arc.end));
-        }
-        let size = random.between_or_bound(25_000, most.max(25_000));
+        let size = random.between_or_bound(low, high);
         let may_fall = limits
             .radius_both_falling
             .is_some_and(|least| arc.radius.abs() >= least);
@@ -139,6 +145,23 @@ fn crossfalls_on_arcs(
         });
     }
     on_arcs
+}
+
+/// The greatest crossfall of an arc: with it half a swing suffices from the arc, and from those that eggs join it
+/// to, to any arc beyond.
+fn greatest_size(arcs: &[ArcOfPlan], place: usize, half_swing: impl Fn(i128) -> i128) -> i128 {
+    let is_first = |place: &usize| !arcs[*place].of_egg;
+    let first = (0..=place).rfind(is_first).expect("a first arc");
+    let beyond = (place + 1..arcs.len()).find(is_first);
+    let last = beyond.unwrap_or(arcs.len()) - 1;
+    let mut most = 70_000;
+    if first > 0 {
+        most = most.min(half_swing(arcs[first].start - arcs[first - 1].end));
+    }
+    if let Some(beyond) = beyond {
+        most = most.min(half_swing(arcs[beyond].start - arcs[last].end));
+    }
+    most.max(25_000)
 }
 
 struct Ramps {

@@ -1,5 +1,6 @@
 //! Roads that keep every rule, often exactly at a limit.
 
+pub mod bends;
 pub mod books;
 pub mod crossfall;
 pub mod plan;
@@ -30,7 +31,7 @@ impl Size {
     /// Most roads are small, some full.
     pub fn random(random: &mut Random) -> Size {
         let (bends, tangents, points, spread) = match random.place(100) {
-            0..=34 => (1, 3, 4, random.pick(&[3, 100, 2_000])),
+            0..=34 => (2, 3, 6, random.pick(&[3, 100, 2_000])),
             35..=84 => (4, 6, 12, 60_000),
             85..=94 => (12, 25, 50, 400_000),
             95..=97 => (49, 100, 200, 100_000),

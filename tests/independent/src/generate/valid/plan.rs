@@ -1,5 +1,6 @@
-//! Plans that keep rules 5 and 7 to 12.
+//! Plans that keep rules 5, 7, 23 and 8 to 12.
 
+use super::bends::{bends_of_leads, random_leads, Bend, Lead};
 use super::{divided_up, Size, LONGEST_LENGTH, LONGEST_PLAN};
 use crate::generate::random::Random;
 use reference::file::{Element, Kind};
@@ -23,23 +24,32 @@ pub fn least_clothoid(limits: &Limits, radius: i128) -> i128 {
     }
 }
 
-/// From arc to arc a crossfall can swing from 25,000 to -25,000 at the greatest ramp limit.
-fn least_swing(limits: &Limits) -> i128 {
-    divided_up(limits.lane_width * 50_000, 20_000)
+/// "For the egg, A squared is length x R1 x R2 / |R1 - R2|, unsigned": the length with which it reaches A min squared,
+/// or the least length.
+pub fn least_egg(limits: &Limits, first: i128, second: i128) -> i128 {
+    let (first, second) = (first.abs(), second.abs());
+    match limits.clothoid {
+        LeastClothoid::Parameter(parameter) => {
+            let least = parameter * parameter * (first - second).abs();
+            divided_up(least, first * second).max(1)
+        }
+        LeastClothoid::Length(length) => length,
+    }
 }
 
-fn random_radius(random: &mut Random, limits: &Limits) -> i128 {
-    let least = limits.radius_min;
-    let both_falling = limits.radius_both_falling.unwrap_or(least);
-    match random.place(10) {
-        0..=2 => least,
-        3 => both_falling,
-        4 => (both_falling - 1).max(least),
-        5 => random.between(both_falling, LONGEST_LENGTH),
-        6 => LONGEST_LENGTH,
-        7 => random.between_by_size(least, LONGEST_LENGTH),
-        _ => random.between(least, 4 * least),
+/// The least length of the clothoid at a place.
+pub fn least_clothoid_at(limits: &Limits, elements: &[Element], place: usize) -> i128 {
+    let (before, after) = (elements[place - 1], elements[place + 1]);
+    match (before.kind, after.kind) {
+        (Kind::Arc, Kind::Arc) => least_egg(limits, before.radius, after.radius),
+        (Kind::Arc, _) => least_clothoid(limits, before.radius),
+        _ => least_clothoid(limits, after.radius),
     }
+}
+
+/// From arc to arc a crossfall can swing from 25,000 to -25,000 at the greatest ramp limit.
+pub fn least_swing(limits: &Limits) -> i128 {
+    divided_up(limits.lane_width * 50_000, 20_000)
 }
 
 fn straight(length: i128) -> Element {
@@ -58,63 +68,121 @@ fn clothoid(length: i128) -> Element {
     }
 }
 
-/// A plan that keeps rules 5 and 7 to 12.
+/// A plan that keeps rules 5, 7, 23 and 8 to 12.
 pub fn plan(random: &mut Random, limits: &Limits, size: &Size) -> Vec<Element> {
-    let mut radii: Vec<i128> = Vec::new();
-    let one_turn = random.chance(30);
-    let turn = random.sign();
-    for _ in 0..size.bends {
-        let sign = if one_turn { turn } else { random.sign() };
-        radii.push(sign * random_radius(random, limits));
-    }
-    plan_of_radii(random, limits, size, &radii)
+    let leads = random_leads(random, size.bends);
+    let bends = bends_of_leads(random, limits, &leads);
+    plan_of(random, limits, size, &bends)
 }
 
-/// A plan whose arcs have the radii given.
+/// A plan whose arcs have the radii given, each with a straight before and after its clothoids.
 pub fn plan_of_radii(
     random: &mut Random,
     limits: &Limits,
     size: &Size,
     radii: &[i128],
 ) -> Vec<Element> {
+    let lead = Lead::Straight;
+    let bends: Vec<Bend> = radii.iter().map(|&radius| Bend { lead, radius }).collect();
+    plan_of(random, limits, size, &bends)
+}
+
+/// A plan of the arcs given.
+pub fn plan_of(random: &mut Random, limits: &Limits, size: &Size, bends: &[Bend]) -> Vec<Element> {
     let longest = limits.straight_max.unwrap_or(LONGEST_LENGTH);
     let mut elements = vec![straight(length_from(random, 1, size.spread).min(longest))];
-    for (bend, &radius) in radii.iter().enumerate() {
-        let least = least_clothoid(limits, radius);
-        let mut first = length_from(random, least, size.spread);
-        if bend > 0 && first < least_swing(limits) {
-            first += least_swing(limits);
-        }
-        elements.push(clothoid(first));
+    for (place, bend) in bends.iter().enumerate() {
+        let before = place.checked_sub(1).map(|before| &bends[before]);
+        let leading = Leading {
+            limits,
+            spread: size.spread,
+            few: bends.len() < 8,
+        };
+        elements.extend(leading.to(random, before, bend));
         elements.push(Element {
             kind: Kind::Arc,
             length: length_from(random, limits.arc_min, size.spread),
-            radius,
+            radius: bend.radius,
         });
+    }
+    if let Some(last) = bends.last() {
+        let least = least_clothoid(limits, last.radius);
         elements.push(clothoid(length_from(random, least, size.spread)));
-        let same_turn = radii
-            .get(bend + 1)
-            .is_some_and(|next| next.signum() == radius.signum());
-        let shortest = if same_turn {
-            limits.straight_min.unwrap_or(1)
-        } else {
-            1
-        };
-        let length = if random.chance(3) && size.bends < 8 {
-            longest.min(2_000_000)
-        } else {
-            length_from(random, shortest, size.spread).min(longest)
-        };
-        elements.push(straight(length));
+        elements.push(straight(length_from(random, 1, size.spread).min(longest)));
     }
     if total(&elements) > LONGEST_PLAN {
         let smaller = Size {
             spread: size.spread / 2,
             ..*size
         };
-        return plan_of_radii(random, limits, &smaller, radii);
+        return plan_of(random, limits, &smaller, bends);
     }
     elements
+}
+
+/// What lengths the elements between two arcs are to have.
+struct Leading<'l> {
+    limits: &'l Limits,
+    spread: i128,
+    /// There are few arcs, so that a straight may be very long.
+    few: bool,
+}
+
+impl Leading<'_> {
+    /// The elements from the arc before, or from the road's first straight, to an arc.
+    fn to(&self, random: &mut Random, before: Option<&Bend>, bend: &Bend) -> Vec<Element> {
+        let mut last = self.clothoid(random, bend);
+        let Some(before) = before else {
+            return vec![clothoid(last)];
+        };
+        let first = self.clothoid(random, before);
+        let swing = least_swing(self.limits);
+        match bend.lead {
+            Lead::Straight => {
+                if last < swing {
+                    last += swing;
+                }
+                let straight = straight(self.straight(random, before, bend));
+                vec![clothoid(first), straight, clothoid(last)]
+            }
+            Lead::Egg => vec![clothoid(self.egg(random, before, bend))],
+            Lead::Pair => {
+                if first + last < swing {
+                    last += swing;
+                }
+                vec![clothoid(first), clothoid(last)]
+            }
+        }
+    }
+
+    fn clothoid(&self, random: &mut Random, bend: &Bend) -> i128 {
+        let least = least_clothoid(self.limits, bend.radius);
+        length_from(random, least, self.spread)
+    }
+
+    fn straight(&self, random: &mut Random, before: &Bend, bend: &Bend) -> i128 {
+        let longest = self.limits.straight_max.unwrap_or(LONGEST_LENGTH);
+        if random.chance(3) && self.few {
+            return longest.min(2_000_000);
+        }
+        let same_turn = before.radius.signum() == bend.radius.signum();
+        let shortest = self.limits.straight_min.filter(|_| same_turn);
+        length_from(random, shortest.unwrap_or(1), self.spread).min(longest)
+    }
+
+    /// An egg's length; where both arcs have whole curvatures, often one on which exact halves lie.
+    fn egg(&self, random: &mut Random, before: &Bend, bend: &Bend) -> i128 {
+        let least = least_egg(self.limits, before.radius, bend.radius);
+        let radii = [before.radius.abs(), bend.radius.abs()];
+        let whole = radii.iter().all(|radius| 1_000_000_000 % radius == 0);
+        if whole && radii[0] != radii[1] && random.chance(60) {
+            // Along twice the change of curvature every odd millimetre has an exact half.
+            let [first, second] = radii.map(|radius| 1_000_000_000 / radius);
+            let unit = 2 * (first - second).abs();
+            return unit * (divided_up(least, unit) + random.between(0, 2));
+        }
+        length_from(random, least, self.spread)
+    }
 }
 
 pub fn total(elements: &[Element]) -> i128 {
