@@ -3,7 +3,7 @@
 use super::valid::bends::{eggs, pairs, places_of, EGG_RADIUS_MAX};
 use super::valid::books::{limits_under, other_book};
 use super::valid::crossfall::arcs;
-use super::valid::plan::least_clothoid_at;
+use super::valid::plan::{least_clothoid_at, BEYOND_64_BITS};
 use super::valid::profile::least_half_length;
 use reference::file::{Alignment, Contract, CrossfallPoint, Element, Kind};
 use reference::limits::{limits, rule_book, speed, LeastClothoid, Limits, RuleBook};
@@ -11,7 +11,7 @@ use reference::road;
 
 type Feature = (&'static str, fn(&Alignment, &Limits) -> bool);
 
-pub const FEATURES: [Feature; 98] = [
+pub const FEATURES: [Feature; 100] = [
     ("no contract date", |r, _| r.contract == Contract::Undated),
     ("a date under today's book", |r, _| {
         dated(r, |date| date >= 20120101)
@@ -64,6 +64,12 @@ pub const FEATURES: [Feature; 98] = [
         egg(r, |_, a, b| a.abs().min(b.abs()) == l.radius_min)
     }),
     ("an egg of 1", |r, _| egg(r, |length, _, _| length == 1)),
+    ("an egg of 10,000,000", |r, _| {
+        egg(r, |length, _, _| length == 10_000_000)
+    }),
+    ("an egg, product over 64 bits", |r, _| {
+        egg(r, |length, a, b| length * a * b >= BEYOND_64_BITS)
+    }),
     ("an egg at its min", |r, l| {
         at_least_length(r, l, &eggs(&r.elements))
     }),

@@ -6,6 +6,9 @@ use crate::generate::random::Random;
 use reference::file::{Element, Kind};
 use reference::limits::{LeastClothoid, Limits};
 
+/// A product of a length and two radii that a signed number of 64 bits cannot hold.
+pub const BEYOND_64_BITS: i128 = 1 << 63;
+
 /// A length not below a least one.
 fn length_from(random: &mut Random, least: i128, spread: i128) -> i128 {
     let more = match random.place(4) {
@@ -174,6 +177,10 @@ impl Leading<'_> {
     fn egg(&self, random: &mut Random, before: &Bend, bend: &Bend) -> i128 {
         let least = least_egg(self.limits, before.radius, bend.radius);
         let radii = [before.radius.abs(), bend.radius.abs()];
+        let widest = BEYOND_64_BITS / (radii[0] * radii[1]) + 1;
+        if self.few && widest <= LONGEST_LENGTH && random.chance(20) {
+            return random.between_or_bound(widest, LONGEST_LENGTH);
+        }
         let whole = radii.iter().all(|radius| 1_000_000_000 % radius == 0);
         if whole && radii[0] != radii[1] && random.chance(60) {
             // Along twice the change of curvature every odd millimetre has an exact half.
