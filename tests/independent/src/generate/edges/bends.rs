@@ -178,6 +178,10 @@ fn bends_of_radii(
     (bends, bend)
 }
 
+fn lengthen(element: &mut Element, more: i128) {
+    element.length = (element.length + more).min(LONGEST_LENGTH);
+}
+
 /// A road with an egg or a pair between such radii, its clothoids long enough for any crossfall.
 fn road_of_radii(
     random: &mut Random,
@@ -189,7 +193,7 @@ fn road_of_radii(
     let (bends, bend) = bends_of_radii(random, &limits, lead, radii);
     let (mut elements, clothoid) = plan_and_clothoid(random, &limits, &bends, bend);
     if radii[0] * radii[1] < 0 {
-        elements[clothoid].length += least_swing(&limits);
+        lengthen(&mut elements[clothoid], least_swing(&limits));
     }
     (road_upon(random, head, elements), clothoid)
 }
@@ -474,7 +478,7 @@ fn clothoid_of_pair(random: &mut Random, outside: bool, before: usize) -> Made {
     let (clothoid, other) = (second - before, second - 1 + before);
     let shorter = if outside { 1 } else { 0 };
     elements[clothoid].length = least_clothoid_at(&limits, &elements, clothoid) - shorter;
-    elements[other].length += least_swing(&limits);
+    lengthen(&mut elements[other], least_swing(&limits));
     let road = road_upon(random, head, elements);
     accepted_or_at(outside, &road, 12, clothoid)
 }

@@ -1,5 +1,6 @@
 //! Bends: arcs, and what leads from one arc to the next.
 
+use self::Lead::{Egg, Pair, Straight};
 use crate::generate::random::Random;
 use crate::generate::valid::LONGEST_LENGTH;
 use reference::file::{Element, Kind};
@@ -24,8 +25,6 @@ pub enum Lead {
     /// Two clothoids: a reversing bend.
     Pair,
 }
-
-use Lead::{Egg, Pair, Straight};
 
 /// An arc of a plan to be.
 #[derive(Clone, Copy, Debug)]
