@@ -13,7 +13,7 @@ use Rattle.road.specs.File.{Road}
 use Rattle.road.specs.Limits.{Limits}
 use Rattle.road.specs.Exact.{blankElement, elementOf, isStraight, isArc}
 use Rattle.road.specs.Rules.{firstArc, arcBefore, arcAfter, shortStraight}
-use Rattle.laws_of_acceptance.specs.PlanOrder.{PlanOrder, Stands}
+use Rattle.laws_of_acceptance.specs.PlanOrder.{PlanOrder, BendBefore, Stands}
 use Rattle.road.specs.declared.Element.{Element}
 
 -- the arc before, one element on
@@ -27,6 +27,10 @@ module _ (r : Road) (i : ℕ) (here : i < length (r .plan)) {e : Element} (is : 
 
   pub not-turned : isArc e ≡ false → arcBefore r i ≡ arcBefore r (suc i)
   not-turned t = sym (arc-step r i here ∙ rw (ap (λ (x : Element). isArc x) (sym is) ∙ t))
+
+-- a straight comes from a clothoid, and that from an arc
+pub before-is : (r : Road) (i : ℕ) (b : BendBefore r i) → arcBefore r (suc i) ≡ elementOf r (b .place) .radius
+before-is r i b = sym (not-turned r i (b .clothoid .within) refl (rw (b .clothoid .is))) ∙ ap (arcBefore r) (b .next) ∙ sym (turned r (b .place) (b .arc .within) refl (rw (b .arc .is)))
 
 drop-past : {A : Type 0} (l : List A) (i : ℕ) → length l ≤ i → drop i l ≡ []
 drop-past [] zero h = refl
