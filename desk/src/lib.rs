@@ -4,6 +4,7 @@
 #![deny(unsafe_code)]
 
 pub mod agreement;
+pub mod between_arcs;
 pub mod call;
 pub mod commands;
 pub mod compare;

@@ -10,7 +10,7 @@ use crate::words::{common, rules, Phrase};
 pub fn counted(number: u32) -> Option<Phrase> {
     match number {
         1..=4 | 22 => Some(common::BYTE),
-        5 | 7..=12 | 19 => Some(common::ELEMENT),
+        5 | 7..=12 | 19 | 23 => Some(common::ELEMENT),
         13 | 14 => Some(common::TANGENT),
         15 => Some(common::VERTEX),
         16..=18 => Some(common::POINT),
@@ -48,12 +48,14 @@ mod tests {
         assert!((1..=19).all(|number| rule_name(number).is_some()));
         assert_eq!(rule_name(12), Some(rules::RULE_12));
         assert_eq!(rule_name(22), Some(rules::RULE_22));
-        assert_eq!([0, 20, 21, 23].map(rule_name), [None; 4]);
+        assert_eq!(rule_name(23), Some(rules::RULE_23));
+        assert_eq!([0, 20, 21, 24].map(rule_name), [None; 4]);
     }
 
     #[test]
     fn what_a_place_counts() {
         assert_eq!([4, 22].map(counted), [Some(common::BYTE); 2]);
+        assert_eq!([7, 23].map(counted), [Some(common::ELEMENT); 2]);
         assert_eq!([6, 20, 21].map(counted), [None; 3]);
     }
 }

@@ -2,6 +2,7 @@
 
 use reference::file::Contract;
 use reference::limits::{limits_at, rule_book, speed, LeastClothoid, RuleBook};
+use reference::rules::EGG_RADIUS_MAX;
 
 use crate::language::Language;
 use crate::text::date;
@@ -125,6 +126,7 @@ pub fn lines(class: i128, terrain: i128, contract: Contract, language: Language)
             words::CROSSFALL,
             language.say(words::FROM_TO, &[&crossfalls[0], &crossfalls[1]]),
         ),
+        (words::EGG_RADIUS_MAX, metres(Some(EGG_RADIUS_MAX))),
     ];
     let line = |(name, value)| Line {
         name: language.say(name, &[]),

@@ -1,16 +1,22 @@
 //! The lines of the items that could be read, with their running stations.
 
+use reference::file::Alignment;
+use reference::limits::limits;
+
+use crate::between_arcs::{between_arcs, BetweenArcs};
 use crate::language::Language;
 use crate::show::line::Line;
 use crate::show::stations::{curve, spans, Span};
 use crate::text::file::{Entry, Item, Number, Numbers};
 use crate::text::lines::{self, Part, CURVE};
+use crate::why::least;
 use crate::words::{common, show as words, Phrase};
 
-/// The items of a file; of one that is not whole its numbers.
-pub fn lines(numbers: &Numbers, language: Language) -> Vec<Line> {
+/// The items of a file; of one that is not whole its numbers. `road` is none of a file that cannot be read.
+pub fn lines(numbers: &Numbers, road: Option<&Alignment>, language: Language) -> Vec<Line> {
     let show = Show {
         numbers,
+        road,
         elements: spans(numbers, Part::Elements),
         tangents: spans(numbers, Part::Tangents),
         language,
@@ -21,6 +27,7 @@ pub fn lines(numbers: &Numbers, language: Language) -> Vec<Line> {
 
 struct Show<'n> {
     numbers: &'n Numbers,
+    road: Option<&'n Alignment>,
     elements: Vec<Span>,
     tangents: Vec<Span>,
     language: Language,
@@ -93,10 +100,27 @@ impl Show<'_> {
         let (begin, end) = self.elements.get(index).copied().unwrap_or((0, 0));
         let place = self.language.say(words::ELEMENT, &[&index, &begin, &end]);
         match entry.numbers.get(2).map(|radius| radius.value > 0) {
-            None => place,
+            None => self.between_arcs(index, place),
             Some(true) => self.language.say(words::RIGHT_TURN, &[&place]),
             Some(false) => self.language.say(words::LEFT_TURN, &[&place]),
         }
+    }
+
+    /// An element's place; of a clothoid between two arcs also what it is, and the least length that refusal 12 asks for.
+    fn between_arcs(&self, index: usize, place: String) -> String {
+        let named = self.road.and_then(|road| {
+            let least = least::clothoid_at(road, &limits(road), index)?;
+            Some((between_arcs(road, index)?, least))
+        });
+        let Some((between, least)) = named else {
+            return place;
+        };
+        let phrase = match between {
+            BetweenArcs::Egg => words::EGG,
+            BetweenArcs::FirstOfReversing => words::FIRST_OF_REVERSING,
+            BetweenArcs::SecondOfReversing => words::SECOND_OF_REVERSING,
+        };
+        self.language.say(phrase, &[&place, &least])
     }
 
     fn tangent(&self, index: usize, entry: &Entry) -> String {

@@ -13,7 +13,7 @@ pub fn byte(refusal: proved::Refusal) -> Option<usize> {
     usize::try_from(refusal.place()).ok().filter(|_| is_reading)
 }
 
-/// The list and the item that a refusal from 5 to 19 names; refusal 6 is about all tangents.
+/// The list and the item that a refusal from 5 to 19 or 23 names; refusal 6 is about all tangents.
 fn item(refusal: proved::Refusal) -> (Part, Option<usize>) {
     let index = usize::try_from(refusal.place()).ok();
     match refusal.number() {

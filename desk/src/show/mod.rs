@@ -60,7 +60,8 @@ pub fn text(file: &[u8], language: Language) -> Result<String, String> {
         stations::hold_against_list(file, &numbers, language)?;
     }
     let place = refusal.and_then(mark::byte).unwrap_or(bytes.len());
-    let mut lines = items::lines(&numbers, language);
+    let road = reference::file::read(file).ok();
+    let mut lines = items::lines(&numbers, road.as_ref(), language);
     lines.extend(rest::lines(bytes, &numbers, place, is_cut, language));
     if let Some(refusal) = refusal {
         mark::mark(&mut lines, refusal, language);

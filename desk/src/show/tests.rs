@@ -46,7 +46,14 @@ fn each_refusal_is_marked_where_it_is() {
         "crossfall 0 -25000 -25000",
         "arc 40000 50000",
     ];
-    for (number, item) in (1..).zip(items).chain([(22, "date 2009-02-29")]) {
+    const OTHERS: [(u32, &str); 2] = [
+        (22, "date 2009-02-29"),
+        (
+            23,
+            "clothoid 30000 # element 3, from 170000 to 200000, egg curve",
+        ),
+    ];
+    for (number, item) in (1..).zip(items).chain(OTHERS) {
         let text = shown_text(&example(&format!("refusal-{number:02}")));
         let line = marked(&text, number);
         let words: Vec<&str> = line.split_whitespace().collect();
@@ -66,6 +73,43 @@ fn a_mark_at_the_end_of_a_list() {
     let end =
         "clothoid 5                              # element 1, from 5 to 10\n# refusal 7 here:";
     assert!(shown_text(&short).contains(end));
+}
+
+#[test]
+fn egg_curves_and_reversing_bends() {
+    let lines = |name: &str, language| {
+        let text = text(&example(name), language).expect("both readings agree");
+        let lines = text.lines().map(|line| {
+            let words: Vec<&str> = line.split_whitespace().collect();
+            words.join(" ")
+        });
+        lines.collect::<Vec<_>>()
+    };
+    let english = lines("hairpin", Language::English);
+    let first = "clothoid 31500 # element 3, from 120150 to 151650, first clothoid of a reversing bend, least length 22273";
+    let second = "clothoid 38500 # element 4, from 151650 to 190150, second clothoid of a reversing bend, least length 27223";
+    assert!(english.iter().any(|line| line == first));
+    assert!(english.iter().any(|line| line == second));
+    let egg = "clothoid 40000 # element 3, from 250000 to 290000, egg curve, least length 18750";
+    assert!(lines("egg", Language::English)
+        .iter()
+        .any(|line| line == egg));
+    let egg =
+        "clothoid 40000 # element 3, od 250000 do 290000, jajasta kriva, najmanja dužina 18750";
+    assert!(lines("egg", Language::SerbianLatin)
+        .iter()
+        .any(|line| line == egg));
+    // a clothoid before a straight has its arc alone
+    let last = "clothoid 28875 # element 9, from 392325 to 421200";
+    assert!(english.iter().any(|line| line == last));
+}
+
+/// Contracted before 2012, the least length is the old handbook's, whatever the radii.
+#[test]
+fn an_egg_curve_by_the_old_handbook() {
+    let source = include_str!("../../../examples/egg.txt");
+    let text = shown_text(&made(&format!("date 2009-05-14\n{source}")));
+    assert!(text.contains("to 290000, egg curve, least length 50000\n"));
 }
 
 #[test]

@@ -58,7 +58,7 @@ fn finding(
     let teller = Teller::new(road, language);
     let place = broken.place as usize;
     let mut facts = match broken.number {
-        5 | 7..=12 => plan::told(&teller, broken.number, place),
+        5 | 7..=12 | 23 => plan::told(&teller, broken.number, place),
         6 | 13..=15 => profile::told(&teller, broken.number, place),
         _ => cross_section::told(&teller, broken.number, place),
     };

@@ -3,6 +3,7 @@
 use reference::file::{Alignment, CrossfallPoint, Kind};
 use reference::limits::{LeastClothoid, Limits};
 use reference::road;
+use reference::rules::kinds_after;
 
 /// Document 01 has these for every speed.
 pub const LONGEST_PLAN: i128 = 100_000_000;
@@ -35,22 +36,23 @@ pub fn element_length(
     }
 }
 
-/// "0, then any count of 2, 1, 2, 0"
-pub fn kind_due(place: usize) -> Kind {
-    match place % 4 {
-        0 => Kind::Straight,
-        2 => Kind::Arc,
-        _ => Kind::Clothoid,
-    }
+/// The kinds that an element may have after those before it.
+pub fn kinds_due(alignment: &Alignment, place: usize) -> &'static [Kind] {
+    let before = alignment.elements[..place].iter();
+    let kinds: Vec<Kind> = before.map(|element| element.kind).collect();
+    kinds_after(&kinds)
 }
 
 /// The least length of the clothoid at a place; none where A min asks for an arc beside it and there is none.
 pub fn clothoid_at(alignment: &Alignment, limits: &Limits, place: usize) -> Option<i128> {
-    let radius = arc_beside(alignment, place).map(|arc| alignment.elements[arc].radius);
-    match (limits.clothoid, radius) {
-        (LeastClothoid::Length(length), _) => Some(length),
-        (_, radius) => radius.map(|radius| clothoid(limits, radius)),
+    if let LeastClothoid::Length(length) = limits.clothoid {
+        return Some(length);
     }
+    if let Some((before, after)) = road::arcs_of_egg(alignment, place) {
+        return Some(egg(limits, before.radius, after.radius));
+    }
+    let arc = arc_beside(alignment, place)?;
+    Some(clothoid(limits, alignment.elements[arc].radius))
 }
 
 /// The arc of the clothoid at a place: the next element, or the one before.
@@ -67,6 +69,18 @@ pub fn arc_beside(alignment: &Alignment, place: usize) -> Option<usize> {
 pub fn clothoid(limits: &Limits, radius: i128) -> i128 {
     match limits.clothoid {
         LeastClothoid::Parameter(parameter) => rounded_up(parameter * parameter, radius.abs()),
+        LeastClothoid::Length(length) => length,
+    }
+}
+
+/// The least length of an egg curve: A min squared x |R1 - R2| / (R1 x R2), by the old handbook a length of its own.
+pub fn egg(limits: &Limits, before: i128, after: i128) -> i128 {
+    let (before, after) = (before.abs(), after.abs());
+    match limits.clothoid {
+        LeastClothoid::Parameter(parameter) => {
+            let difference = (before - after).abs();
+            rounded_up(parameter * parameter * difference, before * after)
+        }
         LeastClothoid::Length(length) => length,
     }
 }
@@ -173,6 +187,14 @@ mod tests {
                 let least = clothoid(&limits, radius);
                 assert!(least * radius.abs() >= squared);
                 assert!((least - 1) * radius.abs() < squared);
+            }
+            let smaller = limits.radius_min;
+            for greater in [smaller + 1, 2 * smaller, 999_983, 1_000_000] {
+                let least = egg(&limits, -smaller, -greater);
+                assert_eq!(least, egg(&limits, greater, smaller));
+                let due = squared * (greater - smaller);
+                assert!(least * smaller * greater >= due);
+                assert!((least - 1) * smaller * greater < due);
             }
             for (before, after) in [(0, 1), (1, 0), (-40_000, 31_003), (40_000, -7)] {
                 let due = vertical_radius(&limits, before, after) * (after - before).abs();

@@ -1,9 +1,10 @@
 //! `why`: every broken rule of a refused file, and what would mend it.
 
+mod between_arcs;
 mod cross_section;
 mod date;
 mod findings;
-mod least;
+pub mod least;
 mod limits;
 mod lines;
 mod mending;

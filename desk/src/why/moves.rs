@@ -26,6 +26,7 @@ pub fn moves(old: &Alignment, new: &Alignment, mended: Refusal, language: Langua
         parts: Vec::new(),
     };
     moves.lengths();
+    moves.radii();
     moves.profile();
     moves.stations();
     moves.crossfalls();
@@ -53,11 +54,13 @@ impl Moves<'_> {
         is_about && self.beyond_least().is_none_or(|beyond| beyond == 0)
     }
 
-    /// By how much the new number is beyond the least that passes, for the rules that may be mended by others instead.
+    /// By how much the new number is beyond the least that passes, for the rules that may be mended by more, or by others
+    /// instead.
     fn beyond_least(&self) -> Option<i128> {
         let place = self.mended.place as usize;
         let new = &self.new.tangents;
         match self.mended.number {
+            10 => Some(self.new.elements[place].radius.abs() - limits(self.old).radius_min),
             14 => Some(new[place].length - least::tangent(self.old, place)),
             15 => Some(new[place].half_length - self.least_half_length(place)),
             _ => None,
@@ -81,6 +84,17 @@ impl Moves<'_> {
         for (place, (old, new)) in old.elements.iter().zip(&new.elements).enumerate() {
             if new.length != old.length && !self.is_own(&[5, 8, 9, 11, 12], place) {
                 self.tell(words::ELEMENT_LENGTH, &[place as i128, new.length]);
+            }
+        }
+    }
+
+    /// An arc that was one before, with another radius.
+    fn radii(&mut self) {
+        let (old, new) = (self.old, self.new);
+        for (place, (old, new)) in old.elements.iter().zip(&new.elements).enumerate() {
+            let is_other = new.kind == old.kind && new.radius != old.radius;
+            if is_other && !self.is_own(&[10], place) {
+                self.tell(words::ARC_RADIUS, &[place as i128, new.radius]);
             }
         }
     }
@@ -158,6 +172,9 @@ impl Moves<'_> {
         match self.mended.number {
             10 => self.tell(words::TURNS_LESS, &[]),
             11 | 12 => self.tell(words::TURNS_MORE, &[]),
+            // arcs of the same length turn less where their radii are greater
+            23 if sizes(self.new) > sizes(self.old) => self.tell(words::TURNS_LESS, &[]),
+            23 => self.tell(words::TURNS_MORE, &[]),
             _ => {}
         }
         let change = end_height(self.new) - end_height(self.old);
@@ -169,6 +186,12 @@ impl Moves<'_> {
             _ => self.tell(words::END_LOWER, &[millimetres]),
         }
     }
+}
+
+/// The sizes of all radii together.
+fn sizes(road: &Alignment) -> i128 {
+    let radii = road.elements.iter().map(|element| element.radius.abs());
+    radii.sum()
 }
 
 /// The height of the road's end in millionths of a millimetre.

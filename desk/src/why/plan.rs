@@ -1,10 +1,11 @@
-//! The rules of the plan told, 5 and 7 to 12.
+//! The rules of the plan told, 5, 7 to 12 and 23.
 
 use reference::file::Kind;
 use reference::limits::LeastClothoid;
+use reference::road;
 
-use super::least;
 use super::teller::Teller;
+use super::{between_arcs, least};
 use crate::rule_book::{clothoid_limit, metres};
 use crate::words::{limits as names, why as words, Phrase};
 
@@ -16,6 +17,7 @@ pub fn told(teller: &Teller, number: i128, place: usize) -> Vec<String> {
         9 => straight_too_short(teller, place),
         10 => radius(teller, place),
         11 => arc_too_short(teller, place),
+        23 => between_arcs::told(teller, place),
         _ => clothoid(teller, place),
     }
 }
@@ -51,7 +53,8 @@ fn kind_name(kind: Kind) -> Phrase {
 
 fn out_of_order(teller: &Teller, place: usize) -> Vec<String> {
     let elements = &teller.road.elements;
-    let due = teller.say(kind_name(least::kind_due(place)), &[]);
+    let due = least::kinds_due(teller.road, place);
+    let due = teller.one_of(due.iter().map(|&kind| teller.say(kind_name(kind), &[])));
     let there = elements[place.min(elements.len() - 1)].kind;
     let there = teller.say(kind_name(there), &[]);
     let numbers = match place < elements.len() {
@@ -77,12 +80,6 @@ fn straight_too_long(teller: &Teller, place: usize) -> Vec<String> {
     ]
 }
 
-/// An arc's place and radius.
-fn arc(teller: &Teller, place: usize) -> String {
-    let radius = teller.number(teller.road.elements[place].radius);
-    teller.say(words::ARC, &[&place, &radius])
-}
-
 fn straight_too_short(teller: &Teller, place: usize) -> Vec<String> {
     let least = teller.limits.straight_min.unwrap_or(0);
     let now = teller.road.elements[place].length;
@@ -102,7 +99,7 @@ fn arcs_around(teller: &Teller, straight: usize) -> [String; 2] {
     let is_arc = |place: &usize| elements[*place].kind == Kind::Arc;
     let before = (0..straight).rev().find(is_arc);
     let after = (straight..elements.len()).find(is_arc);
-    [before, after].map(|place| place.map_or(String::new(), |place| arc(teller, place)))
+    [before, after].map(|place| place.map_or(String::new(), |place| teller.arc(place)))
 }
 
 fn radius(teller: &Teller, place: usize) -> Vec<String> {
@@ -148,6 +145,9 @@ fn arc_too_short(teller: &Teller, place: usize) -> Vec<String> {
 fn clothoid(teller: &Teller, place: usize) -> Vec<String> {
     let length = teller.road.elements[place].length;
     let facts = match teller.limits.clothoid {
+        LeastClothoid::Parameter(parameter) if road::arcs_of_egg(teller.road, place).is_some() => {
+            between_arcs::short_egg(teller, place, parameter)
+        }
         LeastClothoid::Parameter(parameter) => clothoid_parameter(teller, place, parameter),
         LeastClothoid::Length(least) => clothoid_length(teller, place, least),
     };
@@ -165,7 +165,7 @@ fn clothoid_parameter(teller: &Teller, place: usize, parameter: i128) -> Vec<Str
     let length = teller.road.elements[place].length;
     let arc_place = least::arc_beside(teller.road, place).unwrap_or(place);
     let radius = teller.road.elements[arc_place].radius;
-    let (stretch, arc) = (teller.element(place), arc(teller, arc_place));
+    let (stretch, arc) = (teller.element(place), teller.arc(arc_place));
     let product = teller.number(length * radius.abs());
     let limit = teller.limit_of_book(names::CLOTHOID_MIN, metres(parameter, teller.language));
     let squared = teller.number(parameter * parameter);

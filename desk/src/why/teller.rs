@@ -50,6 +50,23 @@ impl Teller<'_> {
         self.stretch(&road::tangent_starts(self.road), place)
     }
 
+    /// An arc's place and radius.
+    pub fn arc(&self, place: usize) -> String {
+        let radius = self.number(self.road.elements[place].radius);
+        self.say(words::ARC, &[&place, &radius])
+    }
+
+    /// `a straight, an arc or a clothoid`
+    pub fn one_of(&self, names: impl Iterator<Item = String>) -> String {
+        let names: Vec<String> = names.collect();
+        match names.split_last() {
+            Some((last, before)) if !before.is_empty() => {
+                self.say(words::OR, &[&before.join(", "), last])
+            }
+            _ => names.concat(),
+        }
+    }
+
     fn stretch(&self, starts: &[i128], place: usize) -> String {
         let (from, to) = (starts[place], starts[place + 1]);
         let numbers = [to - from, from, to].map(|value| self.number(value));

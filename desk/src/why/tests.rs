@@ -374,6 +374,179 @@ fn rules_that_were_not_asked() {
     assert!(text.ends_with("is broken: 18, 19\n"));
 }
 
+const WRONG_EGG: &[u8] = include_bytes!("../../../examples/refusal-23.alignment");
+
+/// The sample of refusal 23 with other radii.
+fn egg(before: i128, after: i128) -> Vec<u8> {
+    let text = include_str!("../../../examples/refusal-23.txt");
+    let before = format!("arc 40000 {before}\n");
+    let after = format!("arc 40000 {after}\n");
+    let text = text.replace("arc 40000 50000\n", &before);
+    made(&text.replace("arc 40000 1000001\n", &after))
+}
+
+#[test]
+fn an_egg_curve_that_does_not_fit_its_arcs() {
+    let expected = "R 23 3: an egg curve or a pair of clothoids does not fit its arcs: element 3
+  length 30,000 mm, from station 170,000 to 200,000; egg curve between element 2 (radius 50,000 mm) and element 4 (radius 1,000,001 mm): a radius over the limit
+  limit: one clothoid between two arcs (egg curve): arcs of the same turn, radii that differ, each at most 1,000,000 mm
+  rule book: annex 2, 6.3, „Јајаста \"O\" - крива“, between arcs of the same turn and different radii; the greatest radius is document 02's (A.3)
+  passes: radius 1,000,000 mm or less, now 1 mm more
+  then: element 4 gets a radius of 1,000,000 mm; the bend turns by a greater angle
+  change: element 4: arc 40000 1000000
+";
+    assert_eq!(printed(WRONG_EGG, Language::English), expected);
+    let change = "element 4: arc 40000 1000000";
+    let line_of = |language, word| line(&printed(WRONG_EGG, language), word);
+    assert_eq!(line_of(Language::Serbian, "измена: "), change);
+    assert_eq!(line_of(Language::SerbianLatin, "izmena: "), change);
+}
+
+/// What an egg curve may not have, all of it told at once, and what passes.
+#[test]
+fn egg_curves_told() {
+    let told = |before, after, words: &str| {
+        let text = printed(&egg(before, after), Language::English);
+        assert!(text.starts_with("R 23 3: "), "{text}");
+        let numbers = text.lines().nth(1).unwrap_or("");
+        assert!(numbers.ends_with(words), "{text}");
+        line(&text, "passes: ")
+    };
+    let equal = told(50_000, 50_000, ": equal radii");
+    assert!(equal.contains("the designer has to decide: one arc with radius 50,000 mm"));
+    let both = "one radius 1,000,000 mm or less, the other 999,999 mm or less, and not the same";
+    assert_eq!(
+        told(1_100_000, 1_200_000, ": a radius over the limit"),
+        both
+    );
+    assert_eq!(
+        told(1_000_000, 1_200_000, ": a radius over the limit"),
+        both
+    );
+    assert_eq!(
+        told(
+            2_000_000,
+            2_000_000,
+            ": equal radii, a radius over the limit"
+        ),
+        both
+    );
+    let opposite =
+        "between these arcs two clothoids (reversing bend), or clothoid, straight, clothoid";
+    assert_eq!(told(50_000, -60_000, ": opposite turns"), opposite);
+    let all = ": opposite turns, equal radii, a radius over the limit";
+    assert_eq!(told(-2_000_000, 2_000_000, all), opposite);
+}
+
+#[test]
+fn pairs_between_arcs_of_the_same_turn() {
+    let source = include_str!("../../../examples/hairpin.txt");
+    let told = |radius: &str| {
+        let file = made(&source.replace("arc 104700 -45000", &format!("arc 104700 {radius}")));
+        printed(&file, Language::English)
+    };
+    let text = told("45000");
+    let numbers = "length 38,500 mm, from station 151,650 to 190,150; with element 3 a pair of clothoids between \
+        element 2 (radius 55,000 mm) and element 5 (radius 45,000 mm): the same turn";
+    assert!(
+        text.starts_with("R 23 4: ") && text.contains("\nR 23 7: "),
+        "{text}"
+    );
+    assert!(text.contains(numbers), "{text}");
+    // 35,000² × 10,000 / (45,000 × 55,000), rounded up
+    let egg = "between these arcs one clothoid of 4,950 mm or more (egg curve), or clothoid, straight, clothoid";
+    assert_eq!(line(&text, "passes: "), egg);
+    let straight = "between these arcs clothoid, straight, clothoid";
+    assert_eq!(line(&told("55000"), "passes: "), straight);
+    assert!(text.contains("lines have to be added or taken away"));
+}
+
+/// The least length of an egg curve passes, and one less does not, at every speed and in both rule books.
+#[test]
+fn the_least_length_of_an_egg_curve() {
+    for (class, terrain) in (1..=4).flat_map(|class| [1, 2, 3].map(|terrain| (class, terrain))) {
+        for day in DAYS {
+            let contract = day.map_or(Contract::Undated, Contract::Dated);
+            let date = day.map_or(String::new(), |day| format!("date {day}\n"));
+            let limits = limits_at(speed(class, terrain), contract);
+            let radii = [limits.radius_min, 999_983];
+            let least = least::egg(&limits, radii[0], radii[1]);
+            is_told(12, 3, "length", least, |length| {
+                let arc = limits.arc_min;
+                let whole = 660_000 + 2 * arc + length;
+                made(&format!(
+                    "{date}class {class}\nterrain {terrain}\nstep 50000\nramp 10000
+straight 130000
+clothoid 200000
+arc {arc} {}
+clothoid {length}
+arc {arc} {}
+clothoid 200000
+straight 130000
+start 500000
+tangent {whole} 20000
+crossfall 0 40000 -40000
+crossfall {whole} 40000 -40000
+",
+                    radii[0], radii[1]
+                ))
+            });
+        }
+    }
+}
+
+#[test]
+fn a_short_egg_curve() {
+    let text =
+        include_str!("../../../examples/egg.txt").replace("clothoid 40000 ", "clothoid 18749 ");
+    let text = printed(&made(&text), Language::English);
+    let numbers =
+        "egg curve between element 2 (radius −300,000 mm) and element 4 (radius −150,000 mm); \
+        length × R1 × R2 is 843,705,000,000,000 mm³";
+    assert!(text.contains(numbers), "{text}");
+    assert!(
+        text.contains("so length × R1 × R2 at least A min² × |R1 − R2| = 843,750,000,000,000 mm³")
+    );
+    let passes =
+        "length 18,750 mm or more (A min² × |R1 − R2| / (R1 × R2), rounded up), now 1 mm less";
+    assert!(text.contains(passes), "{text}");
+}
+
+/// Which kinds may stand at a place: one where an element is wrong, several where the plan stops short.
+#[test]
+fn kinds_that_are_due() {
+    let source = include_str!("../../../examples/refusal-23.txt");
+    let short = made(&source.replace("clothoid 30000\nstraight 100000\n\n", "clothoid 30000\n\n"));
+    let text = printed(&short, Language::English);
+    assert!(text.contains("\nR 7 6: "), "{text}");
+    let due = "the last element is a clothoid; a straight, an arc or a clothoid is due next";
+    assert!(text.contains(due), "{text}");
+    let three = "clothoid 31500             # reversing bend: these two meet at 151650\n";
+    let source = include_str!("../../../examples/hairpin.txt");
+    let text = printed(
+        &made(&source.replace(three, &three.repeat(2))),
+        Language::English,
+    );
+    assert!(
+        text.contains("R 7 5: ") && text.contains("there is a clothoid where an arc is due"),
+        "{text}"
+    );
+}
+
+/// The nearest arcs of a straight, each beside an egg curve.
+#[test]
+fn a_straight_between_bends_with_egg_curves() {
+    let source = include_str!("../../../examples/refusal-09.txt");
+    let bend = "clothoid 40000\narc 40000 150000\nclothoid 40000\n";
+    let egg =
+        "clothoid 40000\narc 40000 300000\nclothoid 40000\narc 40000 150000\nclothoid 40000\n";
+    let text = source.replace(bend, egg).replace("620000", "780000");
+    let text = printed(&made(&text), Language::English);
+    let arcs = "the arcs before and after it are element 4 (radius 150,000 mm) and element 8 (radius 300,000 mm)";
+    assert!(text.starts_with("R 9 6: ") && text.contains(arcs), "{text}");
+    assert_eq!(line(&text, "change: element 6: "), "straight 120000");
+}
+
 /// Elements out of order: a clothoid that the old handbook asks to be longer is told all the same.
 #[test]
 fn clothoids_out_of_order_by_the_old_handbook() {
@@ -388,10 +561,10 @@ fn clothoids_out_of_order_by_the_old_handbook() {
     let passes = "\n  passes: length 30,000 mm or more, now 10,000 mm less\n";
     assert!(old.contains("\nR 12 0: ") && old.contains(passes), "{old}");
     assert!(!old.contains("would keep this rule"), "{old}");
-    assert!(old.ends_with("is broken: 9, 19\n"), "{old}");
+    assert!(old.ends_with("is broken: 23, 9, 19\n"), "{old}");
     let today = printed(&elements(""), Language::English);
     assert!(!today.contains("\nR 12 "), "{today}");
-    assert!(today.ends_with("is broken: 9, 12, 19\n"), "{today}");
+    assert!(today.ends_with("is broken: 23, 9, 12, 19\n"), "{today}");
 }
 
 /// An element that becomes a clothoid may be too short for one: that is mended after the order.

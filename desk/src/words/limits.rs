@@ -28,6 +28,7 @@ crate::phrases! {
     SAG_RADIUS: "sag R", "минимални радијус конкавног заобљења";
     CREST_RADIUS: "crest R", "минимални радијус конвексног заобљења";
     CROSSFALL: "crossfall", "попречни нагиб";
+    EGG_RADIUS_MAX: "greatest radius beside an egg curve", "највећи радијус уз јајасту криву";
     TODAY_TABLE: "Contracted on 2012-01-01 or later, or without a contract date:", "Уговорено 2012-01-01 или касније, или без датума уговора:";
     OLD_TABLE: "Contracted before 2012-01-01, by the old handbook: these limits in place of R min and A min:", "Уговорено пре 2012-01-01, по старом приручнику: ове границе уместо минималног радијуса и минималног параметра клотоиде:";
     NO_LIMIT: "none", "нема";

@@ -21,4 +21,5 @@ crate::phrases! {
     RULE_18: "the crossfall changes faster than the ramp limit allows", "попречни нагиб се мења брже него што дозвољава гранични нагиб рампе витоперења";
     RULE_19: "the crossfall on an arc is not allowed there", "попречни нагиб на кружном луку није дозвољен";
     RULE_22: "the contract date is no day from 1950 to 2099", "датум уговора није исправан дан од 1950. до 2099. године";
+    RULE_23: "an egg curve or a pair of clothoids does not fit its arcs", "јајаста крива или пар клотоида не одговара својим луковима";
 }

@@ -18,13 +18,14 @@ crate::phrases! {
     OLD_HANDBOOK: "old handbook: {0}", "стари приручник: {0}";
     SOURCE_SPEED: "{0}; design speed: annex 2, table 3-03", "{0}; рачунска брзина: прилог 2, табела 3-03";
     SOURCE_NONE: "no such limit; it is document 01's", "нема такве границе; она је из документа 01";
-    SOURCE_7: "annex 2, 6.3, makes clothoids compulsory; the order is document 01's", "прилог 2, 6.3, прописује клотоиде; редослед је из документа 01";
+    SOURCE_7: "annex 2, 6.3, makes clothoids compulsory and has these forms (figure 6-04); the order is that of documents 01 and 02 (A.3)", "прилог 2, 6.3, прописује клотоиде и ове облике (слика 6-04); редослед је из докумената 01 и 02 (A.3)";
     SOURCE_8: "annex 2, chapter 10, „Највећа дужина правца (m)“", "прилог 2, поглавље 10, „Највећа дужина правца (m)“";
     SOURCE_9: "annex 2, chapter 10, „Најмања дужина правца (m)“", "прилог 2, поглавље 10, „Најмања дужина правца (m)“";
     SOURCE_10: "annex 2, chapter 10, „Минимални радијус min R (m)“", "прилог 2, поглавље 10, „Минимални радијус min R (m)“";
     SOURCE_10_OLD: "second table of source document 003, „Rmin (m)“, for roads contracted before 2012-01-01", "друга табела изворног документа 003, „Rmin (m)“, за путеве уговорене пре 2012-01-01";
     SOURCE_11: "annex 2, table 6-01, „min L_k (m)“, and source document 003, „minLk“", "прилог 2, табела 6-01, „min L_k (m)“, и изворни документ 003, „minLk“";
     SOURCE_12: "annex 2, chapter 10, „Минимални параметар клотоиде min A (m)“; A² = R × L: annex 2, 6.3", "прилог 2, поглавље 10, „Минимални параметар клотоиде min A (m)“; A² = R × L: прилог 2, 6.3";
+    SOURCE_12_EGG: "annex 2, chapter 10, „Минимални параметар клотоиде min A (m)“; A² = L × R1 × R2 / |R1 − R2|: document 02, A.3", "прилог 2, поглавље 10, „Минимални параметар клотоиде min A (m)“; A² = L × R1 × R2 / |R1 − R2|: документ 02, A.3";
     SOURCE_12_OLD: "second table of source document 003, „Lmin (m)“, for roads contracted before 2012-01-01", "друга табела изворног документа 003, „Lmin (m)“, за путеве уговорене пре 2012-01-01";
     SOURCE_13: "annex 2, chapter 10, „Максимални подужни нагиб max i_д (%)“, not the value in brackets", "прилог 2, поглавље 10, „Максимални подужни нагиб max i_д (%)“, а не вредност у загради";
     SOURCE_14: "annex 2, 7.2.2: curves that touch are the limiting case", "прилог 2, 7.2.2: гранични случај су кривине које се додирују";
@@ -34,6 +35,8 @@ crate::phrases! {
     SOURCE_18: "the ramp limit is the file's own; annex 2, table 8-02 and under table 6-02, allows {0} ppm at {1} km/h; lane width: annex 2, chapter 10, „Ширина возне траке t_v (m)“", "гранични нагиб рампе витоперења је из датотеке; прилог 2, табела 8-02 и испод табеле 6-02, дозвољава {0} ppm при {1} km/h; ширина возне траке: прилог 2, поглавље 10, „Ширина возне траке t_v (m)“";
     SOURCE_19: "annex 2, 8.1: one-sided fall towards the middle of the bend; R': annex 2, chapter 10, „Минимални радијус R'(i_п=-2,5%) (m)“", "прилог 2, 8.1: једнострани пад према средишту кривине; R': прилог 2, поглавље 10, „Минимални радијус R'(i_п=-2,5%) (m)“";
     SOURCE_22: "no such limit; document 02, A.1: a day of the Gregorian calendar", "нема такве границе; документ 02, A.1: дан грегоријанског календара";
+    SOURCE_23_EGG: "annex 2, 6.3, „Јајаста \"O\" - крива“, between arcs of the same turn and different radii; the greatest radius is document 02's (A.3)", "прилог 2, 6.3, „Јајаста \"O\" - крива“, између истосмерних лукова различитих радијуса; највећи радијус је из документа 02 (A.3)";
+    SOURCE_23_PAIR: "annex 2, 6.3, „Прекретна линија \"S\" - крива“, between arcs of opposite turn; document 02 (A.3) has no „\"C\" - крива“, two clothoids between arcs of the same turn", "прилог 2, 6.3, „Прекретна линија \"S\" - крива“, између супротно усмерених лукова; документ 02 (A.3) нема „\"C\" - криву“, две клотоиде између истосмерних лукова";
 
     // the limit
     LIMIT: "limit: {0}", "граница: {0}";
@@ -41,14 +44,17 @@ crate::phrases! {
     SAME_IN_BOTH: "contracted {0}, the same in both rule books", "уговор од {0}, исто у оба правилника";
     LIMIT_5: "a plan of at most {0} mm", "ситуациони план дуг највише {0} mm";
     LIMIT_6: "the tangents are together as long as the plan", "тангенте су заједно дуге колико и ситуациони план";
-    LIMIT_7: "straight, then clothoid, arc, clothoid, straight, any number of times", "правац, затим клотоида, кружни лук, клотоида, правац, било колико пута";
+    LIMIT_7: "a straight first and last, a clothoid before and after each arc; from arc to arc clothoid, straight, clothoid, or one clothoid (egg curve), or two clothoids (reversing bend)", "правац на почетку и на крају, клотоида пре и после сваког кружног лука; од лука до лука клотоида, правац, клотоида, или једна клотоида (јајаста крива), или две клотоиде (прекретна S-крива)";
     LIMIT_12: "{0}, so length × radius at least {1} mm²", "{0}, дакле дужина × радијус најмање {1} mm²";
+    LIMIT_12_EGG: "{0}, so length × R1 × R2 at least A min² × |R1 − R2| = {1} mm³", "{0}, дакле дужина × R1 × R2 најмање min A² × |R1 − R2| = {1} mm³";
     LIMIT_14: "a tangent at least as long as the half lengths at its ends together", "тангента дуга најмање колико и обе полудужине на њеним крајевима заједно";
     LIMIT_16: "the first point at 0, each beyond the one before it, the last at the road's end", "прва тачка на 0, свака иза претходне, последња на крају пута";
     LIMIT_17: "from {0} to {1} ppm in size, on each side", "од {0} до {1} ppm по апсолутној вредности, на свакој страни";
     LIMIT_18: "lane width × change at most ramp limit × distance; here {0} and {1}", "ширина возне траке × промена највише гранични нагиб рампе витоперења × растојање; овде {0} и {1}";
     LIMIT_19: "the same crossfall on the whole arc, left = −right, the inner side ({0}) negative", "исти попречни нагиб на целом луку, лево = −десно, унутрашња страна ({0}) негативна";
     LIMIT_19_RADIUS: "{0}; or −{1} ppm on both sides with a radius of at least {2} mm", "{0}; или −{1} ppm на обе стране са радијусом од најмање {2} mm";
+    LIMIT_23_EGG: "one clothoid between two arcs (egg curve): arcs of the same turn, radii that differ, each at most {0} mm", "једна клотоида између два лука (јајаста крива): истосмерни лукови, различити радијуси, сваки највише {0} mm";
+    LIMIT_23_PAIR: "two clothoids between two arcs (reversing bend): arcs of opposite turn", "две клотоиде између два лука (прекретна S-крива): супротно усмерени лукови";
 
     // the item's numbers
     NUMBERS_LENGTH: "length {0} mm, from station {1} to {2}", "дужина {0} mm, од стационаже {1} до {2}";
@@ -60,8 +66,10 @@ crate::phrases! {
     NUMBERS_7_SHORT: "the last element is {0}; {1} is due next", "последњи елемент је {0}; следећи на реду је {1}";
     NUMBERS_9: "{0}; the arcs before and after it are {1} and {2}", "{0}; лукови пре и после њега су {1} и {2}";
     ARC: "element {0} (radius {1} mm)", "елемент {0} (радијус {1} mm)";
+    ARCS: "{0} and {1}", "{0} и {1}";
     NUMBERS_10: "radius {0} mm ({1}); {2}", "радијус {0} mm ({1}); {2}";
     NUMBERS_12: "{0}; its arc is {1}; length × radius is {2} mm²", "{0}; њен лук је {1}; дужина × радијус је {2} mm²";
+    NUMBERS_12_EGG: "{0}; egg curve between {1}; length × R1 × R2 is {2} mm³", "{0}; јајаста крива, лукови пре и после ње су {1}; дужина × R1 × R2 је {2} mm³";
     NUMBERS_13: "grade {0} ppm; {1}", "подужни нагиб {0} ppm; {1}";
     NUMBERS_14: "{0}; half lengths {1} mm at its start and {2} mm at its end, together {3} mm", "{0}; полудужине {1} mm на почетку и {2} mm на крају, заједно {3} mm";
     NUMBERS_15: "half length {0} mm at station {1}; grades {2} and {3} ppm, a change of {4} ppm: {5}", "полудужина {0} mm на стационажи {1}; подужни нагиби {2} и {3} ppm, промена {4} ppm: {5}";
@@ -71,6 +79,11 @@ crate::phrases! {
     NUMBERS_17: "left {0} ppm, right {1} ppm, at station {2}", "лево {0} ppm, десно {1} ppm, на стационажи {2}";
     NUMBERS_18: "distance {0} mm, from station {1} to {2}; change {3} ppm on the left and {4} ppm on the right; lane width {5} mm, ramp limit {6} ppm", "растојање {0} mm, од стационаже {1} до {2}; промена {3} ppm лево и {4} ppm десно; ширина возне траке {5} mm, гранични нагиб рампе витоперења {6} ppm";
     NUMBERS_19: "crossfall left / right in ppm: {0}", "попречни нагиб лево / десно у ppm: {0}";
+    NUMBERS_23_EGG: "{0}; egg curve between {1}: {2}", "{0}; јајаста крива, лукови пре и после ње су {1}: {2}";
+    NUMBERS_23_PAIR: "{0}; with element {1} a pair of clothoids between {2}: the same turn", "{0}; са елементом {1} пар клотоида, лукови пре и после њега су {2}: истосмерни";
+    EQUAL_RADII: "equal radii", "једнаки радијуси";
+    OPPOSITE_TURNS: "opposite turns", "супротно усмерени";
+    FLAT_RADIUS: "a radius over the limit", "радијус изнад границе";
     AT_START: "{0} / {1} at its start", "{0} / {1} на почетку";
     AT_END: "{0} / {1} at its end", "{0} / {1} на крају";
     AT_POINT: "{0} / {1} at point {2}", "{0} / {1} у тачки {2}";
@@ -95,6 +108,7 @@ crate::phrases! {
     PASSES_6: "tangents of {0} mm together, or a plan of {1} mm", "тангенте дуге заједно {0} mm, или ситуациони план дуг {1} mm";
     PASSES_7: "{0} here, and so on in this order", "{0} на овом месту, и даље тим редом";
     PASSES_12: "length {0} mm or more (A min² / radius, rounded up), now {1} mm less", "дужина {0} mm и више (min A² / радијус, заокружено навише), сада за {1} mm мање";
+    PASSES_12_EGG: "length {0} mm or more (A min² × |R1 − R2| / (R1 × R2), rounded up), now {1} mm less", "дужина {0} mm и више (min A² × |R1 − R2| / (R1 × R2), заокружено навише), сада за {1} mm мање";
     PASSES_13: "grade from −{0} to {0} ppm, now {1} ppm too much", "подужни нагиб од −{0} до {0} ppm, сада за {1} ppm превише";
     PASSES_15: "half length {0} mm or more ({1} × change / 2,000,000, rounded up), now {2} mm less", "полудужина {0} mm и више ({1} × промена / 2.000.000, заокружено навише), сада за {2} mm мање";
     PASSES_16: "station {0}", "стационажа {0}";
@@ -107,6 +121,11 @@ crate::phrases! {
     PASSES_19: "left {0} to {1} ppm and right its opposite, the same from its start to its end", "лево {0} до {1} ppm и десно супротно, исто од почетка до краја лука";
 
     PASSES_19_LEFT: "right {0} to {1} ppm and left its opposite, the same from its start to its end", "десно {0} до {1} ppm и лево супротно, исто од почетка до краја лука";
+    PASSES_23_EQUAL: "radii that differ, for this rule by 1 mm; the designer has to decide: one arc with radius {0} mm in place of these three elements, or an egg curve between two radii that are meant to differ", "различити радијуси, за ово правило бар за 1 mm; пројектант треба да одлучи: један лук радијуса {0} mm уместо ова три елемента, или јајаста крива између два радијуса који заиста треба да се разликују";
+    PASSES_23_BOTH: "one radius {0} mm or less, the other {1} mm or less, and not the same", "један радијус {0} mm и мање, други {1} mm и мање, и не исти";
+    PASSES_23_OPPOSITE: "between these arcs two clothoids (reversing bend), or clothoid, straight, clothoid", "између ових лукова две клотоиде (прекретна S-крива), или клотоида, правац, клотоида";
+    PASSES_23_PAIR: "between these arcs one clothoid of {0} mm or more (egg curve), or clothoid, straight, clothoid", "између ових лукова једна клотоида од {0} mm и више (јајаста крива), или клотоида, правац, клотоида";
+    PASSES_23_STRAIGHT: "between these arcs clothoid, straight, clothoid", "између ових лукова клотоида, правац, клотоида";
 
     // what the other rule book would say
     KEPT_TODAY: "contracted on 2012-01-01 or later, this element would keep this rule: {0} {1} in today's rule book", "да је пут уговорен 2012-01-01 или касније, овај елемент би поштовао ово правило: {0} {1} по важећем правилнику";
@@ -119,6 +138,7 @@ crate::phrases! {
     ROAD_LONGER: "the road becomes {0} mm longer", "пут постаје дужи за {0} mm";
     ROAD_SHORTER: "the road becomes {0} mm shorter", "пут постаје краћи за {0} mm";
     ELEMENT_LENGTH: "element {0} becomes {1} mm long", "елемент {0} добија дужину {1} mm";
+    ARC_RADIUS: "element {0} gets a radius of {1} mm", "елемент {0} добија радијус {1} mm";
     TANGENT_LENGTH: "tangent {0} becomes {1} mm long", "тангента {0} добија дужину {1} mm";
     GRADE: "tangent {0} gets a grade of {1} ppm", "тангента {0} добија подужни нагиб {1} ppm";
     HALF_LENGTH: "vertex {0} gets a half length of {1} mm", "прелом {0} добија полудужину {1} mm";

@@ -23,7 +23,16 @@ struct Case<'a> {
     limits: Limits,
 }
 
-impl Case<'_> {
+impl<'a> Case<'a> {
+    fn new(road: &'a Alignment, judgement: &'a Judgement) -> Case<'a> {
+        let limits = limits(road);
+        Case {
+            road,
+            judgement,
+            limits,
+        }
+    }
+
     fn is_broken(&self, number: i128, place: usize) -> bool {
         let place = place as i128;
         is_among(&self.judgement.broken, Refusal { number, place })
@@ -41,10 +50,18 @@ impl Case<'_> {
     }
 }
 
-/// The broken rules stand in the order of their numbers, then of their items.
+/// The broken rules stand in the order in which they are asked, then of their items.
 fn is_among(broken: &[Refusal], refusal: Refusal) -> bool {
-    let order = |refusal: &Refusal| (refusal.number, refusal.place);
+    let order = |refusal: &Refusal| (asked_as(refusal.number), refusal.place);
     broken.binary_search_by_key(&order(&refusal), order).is_ok()
+}
+
+/// Rules are asked in the order of their numbers, but 23 right after 7.
+fn asked_as(number: i128) -> (i128, bool) {
+    match number {
+        23 => (7, true),
+        _ => (number, false),
+    }
 }
 
 /// What a search for a road comes to.
@@ -68,12 +85,7 @@ pub enum Obstacle {
 
 /// The first candidate after which the rule is not broken at this item, and none where it was not before.
 pub fn mended(road: &Alignment, judgement: &Judgement, broken: Refusal) -> Mending {
-    let limits = limits(road);
-    let case = Case {
-        road,
-        judgement,
-        limits,
-    };
+    let case = Case::new(road, judgement);
     let mut obstacle = None;
     let mut next_best = None;
     for candidate in candidates(&case, broken) {
@@ -130,7 +142,7 @@ fn candidates(case: &Case, broken: Refusal) -> Vec<Alignment> {
     let place = broken.place as usize;
     match broken.number {
         6 => profile::added_up(case),
-        5 | 7..=12 => plan::candidates(case, broken.number, place),
+        5 | 7..=12 | 23 => plan::candidates(case, broken.number, place),
         13 => profile::with_grade(case, place),
         14 => profile::with_longer_tangent(case, place),
         15 => profile::with_longer_curve(case, place),

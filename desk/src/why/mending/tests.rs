@@ -33,7 +33,7 @@ fn found(road: &Alignment, number: i128, place: i128) -> Alignment {
 }
 
 /// Each with the refusal that turns it away.
-const SAMPLES: [(&[u8], i128, i128); 13] = [
+const SAMPLES: [(&[u8], i128, i128); 14] = [
     (
         include_bytes!("../../../../examples/refusal-06.alignment"),
         6,
@@ -98,6 +98,11 @@ const SAMPLES: [(&[u8], i128, i128); 13] = [
         include_bytes!("../../../../examples/refusal-19.alignment"),
         19,
         2,
+    ),
+    (
+        include_bytes!("../../../../examples/refusal-23.alignment"),
+        23,
+        3,
     ),
 ];
 
@@ -259,4 +264,129 @@ fn no_room_for_a_curve() {
         place: 0,
     };
     assert!(matches!(found, Mending::Obstacle(Obstacle::Breaks(broken)) if broken == sum));
+}
+
+fn egg_road(before: i128, after: i128) -> Alignment {
+    let mut road = road(include_bytes!("../../../../examples/refusal-23.alignment"));
+    (road.elements[2].radius, road.elements[4].radius) = (before, after);
+    road
+}
+
+fn egg_radii(road: &Alignment) -> (i128, i128) {
+    (road.elements[2].radius, road.elements[4].radius)
+}
+
+/// Radii that are too great or equal become the nearest that pass, and the greater one stays the greater.
+#[test]
+fn radii_beside_an_egg() {
+    let most = 1_000_000;
+    for (radii, nearest) in [
+        ((50_000, 1_000_001), (50_000, most)),
+        ((10_000_000, 60_000), (most, 60_000)),
+        ((1_100_000, 1_200_000), (most - 1, most)),
+        ((1_200_000, 1_100_000), (most, most - 1)),
+        ((most, 1_200_000), (most - 1, most)),
+        ((50_000, 50_000), (50_001, 50_000)),
+        ((most, most), (most - 1, most)),
+    ] {
+        let mended = found(&egg_road(radii.0, radii.1), 23, 3);
+        assert_eq!(egg_radii(&mended), nearest);
+        assert!(judge(&mended).is_ok());
+    }
+}
+
+/// A left bend keeps its turn; the least radius becomes greater, not smaller.
+#[test]
+fn an_egg_to_the_left_at_the_least_radius() {
+    let mut road = egg_road(-45_000, -45_000);
+    for point in &mut road.points {
+        std::mem::swap(&mut point.left, &mut point.right);
+    }
+    let mended = found(&road, 23, 3);
+    assert_eq!(egg_radii(&mended), (-45_001, -45_000));
+    assert!(judge(&mended).is_ok());
+}
+
+/// Two eggs with one arc between them, all radii equal: another radius of that arc mends both.
+#[test]
+fn two_eggs_at_once() {
+    let mut road = egg_road(50_000, 50_000);
+    let (egg, arc) = (road.elements[3], road.elements[4]);
+    road.elements.splice(5..5, [egg, arc]);
+    road.tangents[1].length += egg.length + arc.length;
+    for point in &mut road.points[5..] {
+        point.station += egg.length + arc.length;
+    }
+    let judgement = judge_all(&road);
+    let broken: Vec<_> = judgement
+        .broken
+        .iter()
+        .map(|r| (r.number, r.place))
+        .collect();
+    assert_eq!(broken, [(23, 3), (23, 5)]);
+    let (mended, after) = all_mended(&road, &judgement);
+    assert!(after.broken.is_empty(), "{:?}", after.broken);
+    assert!(judge(&mended).is_ok());
+}
+
+/// Arcs that turn to the wrong side have to be designed anew.
+#[test]
+fn wrong_turns_around_clothoids() {
+    let opposite = mending(&egg_road(50_000, -60_000), 23, 3);
+    assert!(matches!(opposite, Mending::Obstacle(Obstacle::NoCandidate)));
+    let mut same = road(include_bytes!("../../../../examples/hairpin.alignment"));
+    same.elements[5].radius = 45_000;
+    for place in [4, 7] {
+        let pair = mending(&same, 23, place);
+        assert!(matches!(pair, Mending::Obstacle(Obstacle::NoCandidate)));
+    }
+}
+
+/// −2.5 % on both sides is for radii that no egg may have: the crossfall changes with the radius.
+#[test]
+fn an_egg_beside_an_arc_that_falls_to_both_sides() {
+    let mut road = egg_road(400_000, 3_000_000);
+    (road.class, road.terrain) = (1, 3); // 80 km/h
+    for element in &mut road.elements {
+        element.length = 200_000;
+    }
+    let ends = [
+        0, 200_000, 400_000, 600_000, 800_000, 1_000_000, 1_200_000, 1_400_000,
+    ];
+    for (point, station) in road.points.iter_mut().zip(ends) {
+        point.station = station;
+    }
+    for point in &mut road.points[4..] {
+        (point.left, point.right) = (-25_000, -25_000);
+    }
+    road.tangents.truncate(1);
+    (road.tangents[0].length, road.tangents[0].half_length) = (1_400_000, 0);
+    let mended = found(&road, 23, 3);
+    assert_eq!(egg_radii(&mended), (400_000, 1_000_000));
+    let crossfalls = [4, 5].map(|place| (mended.points[place].left, mended.points[place].right));
+    assert_eq!(crossfalls, [(25_000, -25_000); 2]);
+    assert!(judge(&mended).is_ok());
+}
+
+/// A radius that becomes R min may not become that of the egg's other arc.
+#[test]
+fn a_small_radius_beside_an_egg() {
+    let mended = found(&egg_road(45_000, 44_999), 10, 4);
+    assert_eq!(egg_radii(&mended), (45_000, 45_001));
+    let road = egg_road(44_000, 43_000);
+    let (mended, after) = all_mended(&road, &judge_all(&road));
+    assert!(after.broken.is_empty(), "{:?}", after.broken);
+    assert_eq!(egg_radii(&mended), (45_000, 45_001));
+}
+
+/// A second arc that becomes a clothoid may have a third one beside it: the order is asked first.
+#[test]
+fn kinds_of_the_wider_order() {
+    let mut road = road(include_bytes!("../../../../examples/hairpin.alignment"));
+    road.elements[5].kind = Kind::Clothoid;
+    road.elements[5].radius = 0;
+    let mended = found(&road, 7, 5);
+    assert_eq!(mended.elements[5].kind, Kind::Arc);
+    assert_eq!(mended.elements[5].radius, -45_000);
+    assert!(judge(&mended).is_ok());
 }
