@@ -2,7 +2,10 @@
 //! number never comes from here.
 
 use reference::file::{Alignment, Kind};
-use reference::road::{element_starts, tangent_starts};
+use reference::fraction::Fraction;
+use reference::road::{curvature_at_ends, element_starts, tangent_starts};
+
+use crate::between_arcs::{between_arcs, BetweenArcs};
 
 /// A vertex between two tangents; lengths in mm, grades as parts of one.
 #[derive(Clone, Copy, Debug)]
@@ -121,36 +124,33 @@ pub struct Bend {
     pub from: i128,
     pub to: i128,
     pub kind: Kind,
+    pub between_arcs: Option<BetweenArcs>,
     /// In mm, positive for a right turn; 0 where the element is no arc.
     pub radius: i128,
     pub at_start: f64,
     pub at_end: f64,
 }
 
-/// The elements; a clothoid takes the curvature of its neighbours.
+/// The elements; a clothoid runs from the curvature at its start to that at its end.
 pub fn bends(alignment: &Alignment) -> Vec<Bend> {
     let starts = element_starts(alignment);
-    let elements = &alignment.elements;
-    let curvature = |place: Option<usize>| {
-        let element = place.and_then(|place| elements.get(place));
-        let arc = element.filter(|element| element.kind == Kind::Arc);
-        arc.map_or(0.0, |arc| 1.0 / arc.radius as f64)
-    };
     let bend = |place: usize| {
-        let element = elements[place];
-        let (before, after) = match element.kind {
-            Kind::Straight => (None, None),
-            Kind::Arc => (Some(place), Some(place)),
-            Kind::Clothoid => (place.checked_sub(1), Some(place + 1)),
-        };
+        let element = alignment.elements[place];
+        let (at_start, at_end) = curvature_at_ends(alignment, place);
         Bend {
             from: starts[place],
             to: starts[place + 1],
             kind: element.kind,
+            between_arcs: between_arcs(alignment, place),
             radius: element.radius,
-            at_start: curvature(before),
-            at_end: curvature(after),
+            at_start: per_mm(at_start),
+            at_end: per_mm(at_end),
         }
     };
-    (0..elements.len()).map(bend).collect()
+    (0..alignment.elements.len()).map(bend).collect()
+}
+
+/// Millionths per metre in parts of one per mm.
+fn per_mm(curvature: Fraction) -> f64 {
+    curvature.numerator as f64 / curvature.denominator as f64 / 1e9
 }

@@ -27,7 +27,7 @@ fn lines<'a>(listed: &'a Listed, view: &'a View) -> impl Iterator<Item = (&'a st
     let mut joints = view.joints.iter().peekable();
     text.lines().zip(&listed.rows).map(move |(line, row)| {
         let joint = joints.next_if(|joint| joint.row.station == row.station);
-        let reasons = joint.map(|joint| in_words(&joint.reasons, view.language));
+        let reasons = joint.map(|joint| in_words(&joint.reasons, view.alignment, view.language));
         (line, reasons.unwrap_or_default())
     })
 }

@@ -26,7 +26,7 @@ fn item(finding: &Finding) -> Option<Item> {
     let place = usize::try_from(finding.place).ok()?;
     match finding.number {
         6 => Some(Item::ProfileEnd),
-        5 | 7..=12 | 19 => Some(Item::Element(place)),
+        5 | 7..=12 | 19 | 23 => Some(Item::Element(place)),
         13 | 14 => Some(Item::Tangent(place)),
         15 => Some(Item::Vertex(place)),
         16..=18 => Some(Item::Point(place)),

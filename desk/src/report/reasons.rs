@@ -3,9 +3,10 @@
 use reference::file::Alignment;
 use reference::stations::{marks, Reason};
 
+use crate::between_arcs::{between_arcs, BetweenArcs};
 use crate::language::Language;
 use crate::rows::Row;
-use crate::words::report as words;
+use crate::words::{report as words, Phrase};
 
 /// A listed station that is more than a multiple of the step.
 #[derive(Clone, Debug)]
@@ -41,21 +42,32 @@ fn is_multiple_of_step(station: i128, alignment: &Alignment) -> bool {
     station % alignment.step == 0 && station < alignment.total_length()
 }
 
-pub fn in_words(reasons: &[Reason], language: Language) -> String {
-    let words = reasons.iter().map(|&reason| one_in_words(reason, language));
+pub fn in_words(reasons: &[Reason], alignment: &Alignment, language: Language) -> String {
+    let words = reasons.iter();
+    let words = words.map(|&reason| one_in_words(reason, alignment, language));
     words.collect::<Vec<_>>().join(", ")
 }
 
-pub fn one_in_words(reason: Reason, language: Language) -> String {
+pub fn one_in_words(reason: Reason, alignment: &Alignment, language: Language) -> String {
     let numbered = |phrase, place: usize| language.say(phrase, &[&place]);
     match reason {
         Reason::Start => language.say(words::START, &[]),
         Reason::End => language.say(words::END, &[]),
         Reason::MultipleOfStep => language.say(words::STEP_MULTIPLE, &[]),
-        Reason::ElementEnd(place) => numbered(words::ELEMENT_ENDS, place),
+        Reason::ElementEnd(place) => numbered(element_ends(alignment, place), place),
         Reason::CurveStart(place) => numbered(words::CURVE_BEGINS, place),
         Reason::CurveEnd(place) => numbered(words::CURVE_ENDS, place),
         Reason::Vertex(place) => numbered(words::VERTEX_WITHOUT_CURVE, place),
         Reason::CrossfallPoint(place) => numbered(words::CROSSFALL_POINT, place),
+    }
+}
+
+/// The end of an element; egg curves and reversing bends are named.
+fn element_ends(alignment: &Alignment, place: usize) -> Phrase {
+    match between_arcs(alignment, place) {
+        None => words::ELEMENT_ENDS,
+        Some(BetweenArcs::Egg) => words::EGG_ENDS,
+        Some(BetweenArcs::FirstOfReversing) => words::REVERSES,
+        Some(BetweenArcs::SecondOfReversing) => words::REVERSING_ENDS,
     }
 }

@@ -13,6 +13,8 @@ const CREST: &[u8] = include_bytes!("../../../examples/crest.alignment");
 const MOUNTAIN: &[u8] = include_bytes!("../../../examples/mountain-access-road.alignment");
 const LONG: &[u8] = include_bytes!("../../../examples/long-access-road.alignment");
 const DATED: &[u8] = include_bytes!("../../../examples/contract-of-2009.alignment");
+const EGG: &[u8] = include_bytes!("../../../examples/egg.alignment");
+const HAIRPIN: &[u8] = include_bytes!("../../../examples/hairpin.alignment");
 const LANGUAGES: [Language; 2] = [Language::English, Language::Serbian];
 
 /// The text between two others.
@@ -115,7 +117,7 @@ fn is_over(one: &Area, other: &Area) -> bool {
 
 #[test]
 fn no_label_over_another_on_the_sample_roads() {
-    for file in [CREST, MOUNTAIN, LONG, DATED] {
+    for file in [CREST, MOUNTAIN, LONG, DATED, EGG, HAIRPIN] {
         for language in LANGUAGES {
             let page = page("road", file, language).expect("agreed");
             assert!(!page.is_refused);
@@ -293,4 +295,46 @@ fn every_row_of_the_list_is_told() {
     assert!(page
         .html
         .contains("<td>end, element 0 ends, crossfall point 1\n"));
+}
+
+#[test]
+fn egg_curves_and_reversing_bends_are_named() {
+    let said = |file, language, words: &[&str]| {
+        let html = page("road", file, language).expect("agreed").html;
+        for words in words {
+            assert!(html.contains(words), "{words}");
+        }
+    };
+    let egg = "<td>-6667<td>element 3 ends (egg curve), crossfall point 4, multiple of the step\n";
+    said(EGG, Language::English, &[egg, ">egg<"]);
+    let reversing = [
+        "<td>0<td>element 3 ends (reversing bend: curvature 0)\n",
+        "<td>-22222<td>element 4 ends (reversing bend), crossfall point 4\n",
+        ">S bend<",
+    ];
+    said(HAIRPIN, Language::English, &reversing);
+    let reversing = [
+        "крај елемента 6 (прекретна S-крива: закривљеност 0)",
+        ">S-крива<",
+    ];
+    said(HAIRPIN, Language::Serbian, &reversing);
+}
+
+/// The curvature is drawn from one arc's to the other's, and through 0 where two clothoids meet.
+#[test]
+fn curvature_of_clothoids_between_arcs() {
+    let ends = |file| {
+        let alignment = reference::file::read(file).expect("a file");
+        let radius = |curvature: f64| match curvature == 0.0 {
+            true => 0,
+            false => (1.0 / curvature).round() as i128,
+        };
+        let bends = super::lines::bends(&alignment).into_iter();
+        let ends = bends.map(|bend| (radius(bend.at_start), radius(bend.at_end)));
+        ends.collect::<Vec<_>>()
+    };
+    assert_eq!(ends(EGG)[3], (-300_000, -150_000));
+    let hairpin = ends(HAIRPIN);
+    assert_eq!(hairpin[3..5], [(55_000, 0), (0, -45_000)]);
+    assert_eq!(hairpin[6..8], [(-45_000, 0), (0, 60_000)]);
 }

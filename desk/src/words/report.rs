@@ -60,6 +60,12 @@ crate::phrases! {
     PLAN_SIGNS: "right turn above, left turn below", "десна кривина горе, лева доле";
     STRAIGHT: "straight {0}", "правац {0}";
     CLOTHOID: "clothoid {0}", "клотоида {0}";
+    EGG_LENGTH: "egg curve {0}", "јајаста крива {0}";
+    EGG: "egg curve", "јајаста крива";
+    EGG_SHORT: "egg", "јајаста";
+    REVERSING_LENGTH: "reversing bend {0}", "прекретна S-крива {0}";
+    REVERSING: "reversing bend", "прекретна S-крива";
+    REVERSING_SHORT: "S bend", "S-крива";
     ARC_RIGHT: "R {0} right", "R {0} десно";
     ARC_LEFT: "R {0} left", "R {0} лево";
     CROSSFALL_HEAD: "crossfall, %", "попречни нагиб, %";
@@ -110,6 +116,9 @@ crate::phrases! {
     START: "start", "почетак";
     END: "end", "крај";
     ELEMENT_ENDS: "element {0} ends", "крај елемента {0}";
+    EGG_ENDS: "element {0} ends (egg curve)", "крај елемента {0} (јајаста крива)";
+    REVERSES: "element {0} ends (reversing bend: curvature 0)", "крај елемента {0} (прекретна S-крива: закривљеност 0)";
+    REVERSING_ENDS: "element {0} ends (reversing bend)", "крај елемента {0} (прекретна S-крива)";
     CURVE_BEGINS: "curve {0} begins", "почетак заобљења {0}";
     CURVE_ENDS: "curve {0} ends", "крај заобљења {0}";
     VERTEX_WITHOUT_CURVE: "vertex {0}", "прелом {0}";

@@ -199,6 +199,7 @@ fn row_lines(sheet: &Sheet, between: &Between, joint: &Joint) -> Vec<String> {
     let edge = language.thousandths(between.side.edge(&joint.row));
     let mut lines = vec![shown::station(joint.row.station), format!("{edge} m")];
     let reasons = joint.reasons.iter();
-    lines.extend(reasons.map(|&reason| one_in_words(reason, language)));
+    let alignment = sheet.view.alignment;
+    lines.extend(reasons.map(|&reason| one_in_words(reason, alignment, language)));
     lines
 }

@@ -7,6 +7,7 @@ use super::heads::{self, Entry};
 use super::marking;
 use super::path::Path;
 use super::sheet::{Sheet, LEFT, RIGHT};
+use crate::between_arcs::BetweenArcs;
 use crate::report::lines::Bend;
 use crate::report::marks::Item;
 use crate::report::shown;
@@ -26,9 +27,13 @@ pub fn draw(sheet: &mut Sheet) {
     let bends = sheet.view.bends.iter();
     let seen: Vec<&Bend> = bends.filter(|bend| is_seen(sheet, bend)).collect();
     shapes(sheet, &seen, middle);
+    // an arc's label may be shorter and still tell its radius
+    for bend in &seen {
+        label(sheet, bend, middle, names(sheet, bend));
+    }
     for kind in [Kind::Arc, Kind::Straight, Kind::Clothoid] {
         for bend in seen.iter().filter(|bend| bend.kind == kind) {
-            label(sheet, bend, middle);
+            label(sheet, bend, middle, texts(sheet, bend));
         }
     }
     sheet.y += HEIGHT;
@@ -83,7 +88,8 @@ fn shape(sheet: &Sheet, bend: &Bend, middle: f64, sharpest: f64, shapes: &mut Pa
     shapes.close();
 }
 
-fn label(sheet: &mut Sheet, bend: &Bend, middle: f64) {
+/// Puts the first of the texts that has room.
+fn label(sheet: &mut Sheet, bend: &Bend, middle: f64, texts: Vec<String>) {
     let Some((left, right)) = sheet.seen(bend.from as f64, bend.to as f64) else {
         return;
     };
@@ -91,9 +97,11 @@ fn label(sheet: &mut Sheet, bend: &Bend, middle: f64) {
     let (above, below) = (middle - 6.0, middle + 13.0);
     // on the other side of the line, where the band does not stand
     let y = if is_right { below } else { above };
-    let texts = texts(sheet, bend).into_iter();
     let label = |words| Label::new((left + right) / 2.0, y, Anchor::Middle, words);
-    let mut labels: Vec<Label> = texts.map(|words| label(words).sized(Size::Small)).collect();
+    let labels = texts.into_iter();
+    let mut labels: Vec<Label> = labels
+        .map(|words| label(words).sized(Size::Small))
+        .collect();
     let room = match bend.kind {
         Kind::Arc => room_beside_arcs(sheet, bend),
         Kind::Straight | Kind::Clothoid => right - left,
@@ -116,6 +124,25 @@ fn room_beside_arcs(sheet: &Sheet, bend: &Bend) -> f64 {
     let from = before.map_or(sheet.from, |arc| arc.to.max(sheet.from));
     let to = after.map_or(sheet.to, |arc| arc.from.min(sheet.to));
     (to - from) as f64 * sheet.units()
+}
+
+/// What a clothoid between two arcs is called, the longest first; nothing of any other element.
+fn names(sheet: &Sheet, bend: &Bend) -> Vec<String> {
+    let phrases = match bend.between_arcs {
+        None => &[][..],
+        Some(BetweenArcs::Egg) => &[words::EGG_LENGTH, words::EGG, words::EGG_SHORT],
+        Some(_) => &[
+            words::REVERSING_LENGTH,
+            words::REVERSING,
+            words::REVERSING_SHORT,
+        ],
+    };
+    let language = sheet.view.language;
+    let length = shown::metres(bend.to - bend.from, language);
+    let names = phrases.iter();
+    names
+        .map(|phrase| language.say(*phrase, &[&length]))
+        .collect()
 }
 
 /// What is said of an element, the longest first.
