@@ -4,8 +4,8 @@
  * Link with libvoardusk.a (`rt staticlib voardusk` writes it to target/staticlib; x86-64). No routine keeps state,
  * allocates or calls the system; each needs some 64 KB of stack, and memcpy and memset of the C library.
  *
- * Each routine returns 0, or the number of the refusal that turns the call away: 1 to 19 and 22 for the file, 20 for a
- * buffer under 96 bytes, 21 for a row beyond the road's end (docs/REFUSALS.md). *answer then holds the refusal's
+ * Each routine returns 0, or the number of the refusal that turns the call away: 1 to 19, 22 and 23 for the file, 20
+ * for a buffer under 96 bytes, 21 for a row beyond the road's end (docs/REFUSALS.md). *answer then holds the refusal's
  * place, and the buffer is untouched. The routines check the file, the station and the buffer's length.
  *
  * The caller owes what C cannot check: no pointer is null, also where its length is 0; file has file_length bytes,

@@ -36,12 +36,13 @@ pub struct Refusal {
 }
 
 impl Refusal {
-    /// 1 to 19 and 22 for the file, 20 for a buffer under [`LINE_LENGTH`] bytes, 21 for a row beyond the road's end.
+    /// 1 to 19, 22 and 23 for the file, 20 for a buffer under [`LINE_LENGTH`] bytes, 21 for a row beyond the road's end.
     pub fn number(self) -> u32 {
         self.number
     }
 
-    /// A byte of the file for 1 to 4 and 22; an element, tangent, vertex or crossfall point from 5 to 19; else 0.
+    /// A byte of the file for 1 to 4 and 22; an element, tangent, vertex or crossfall point from 5 to 19 and of 23; 0 of
+    /// 6, 20 and 21.
     pub fn place(self) -> u64 {
         self.place
     }
