@@ -110,7 +110,9 @@ impl Show<'_> {
     fn between_arcs(&self, index: usize, place: String) -> String {
         let named = self.road.and_then(|road| {
             let least = least::clothoid_at(road, &limits(road), index)?;
-            Some((between_arcs(road, index)?, least))
+            // equal radii, which are no egg curve's, ask for none
+            let between = between_arcs(road, index).filter(|_| least > 0)?;
+            Some((between, least))
         });
         let Some((between, least)) = named else {
             return place;
