@@ -12,9 +12,9 @@ use Rattle.road.specs.Exact.{elementOf, tangentOf, pointOf, isArc, elementStart
 use Rattle.road.specs.Lane.{laneWidth}
 use Rattle.road.specs.Rules.{accepted}
 use Rattle.laws_of_acceptance.specs.PlanOrder.{Stands, PlanOrder}
-use Rattle.laws_of_acceptance.specs.Links.{Egg}
+use Rattle.laws_of_acceptance.specs.Links.{Egg, egg-arcs}
 use Rattle.laws_of_acceptance.specs.Ranged.{Within}
-use Rattle.laws_of_acceptance.specs.Positive.{Accepted, accepted-road, plan-ordered, eggs-linked, facts}
+use Rattle.laws_of_acceptance.specs.Positive.{Accepted, accepted-road, plan-ordered, facts}
 use Rattle.laws_of_acceptance.specs.Table.{lane-range}
 use Rattle.laws_of_acceptance.specs.Facts.{Facts, Level, points-inside, curve-begins, curve-ends}
 use Rattle.laws_of_acceptance.specs.Ranges.{element-in, tangent-in, crossfall-in, total-small, total-positive, element-inside, tangent-inside, level}
@@ -78,7 +78,7 @@ both {r} A R =
       point-count = A .ranges .points .count;
       whole = record { low = total-positive A; high = total-small A };
       plan-order = plan-ordered A;
-      egg = eggs-linked A;
+      egg = egg-arcs A;
       element-length = λ i h. element-in A i h .length;
       radius = λ i h. element-in A i h .radius .arc;
       element-start = element-inside A;

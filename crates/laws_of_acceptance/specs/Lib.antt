@@ -1,11 +1,11 @@
 pub mod Judging
 pub mod PlanOrder
 pub mod Kinds
-pub mod Links
 pub mod PointOrder
 pub mod Ranged
 pub mod Lists
 pub mod Positive
+pub mod Links
 pub mod Table
 pub mod Refusals
 pub mod Facts

@@ -8,11 +8,12 @@ use lib.Dec.{ltb, eqb}
 use lib.IntN.{ℤ, natAbs}
 use Rattle.laws_of_lists.specs.Tests.{or-left, or-right, true-false}
 use Rattle.road.specs.File.{Road}
-use Rattle.road.specs.Limits.{Limits}
+use Rattle.road.specs.Limits.{limits}
 use Rattle.road.specs.Exact.{elementOf}
 use Rattle.road.specs.Rules.{sameTurn, wrongEgg, wrongLink}
 use Rattle.laws_of_acceptance.specs.Judging.{Keeps}
 use Rattle.laws_of_acceptance.specs.PlanOrder.{Stands}
+use Rattle.laws_of_acceptance.specs.Positive.{Accepted}
 use Rattle.road.specs.declared.Element.{Element}
 use Rattle.road.specs.declared.Rule.the-variants as rule
 use Rattle.road.specs.declared.ElementRule.the-variants as element
@@ -41,7 +42,10 @@ pair-of : (a b e c : Element) → a .kind ≡ 1 → b .kind ≡ 2 → e .kind �
 unfolding wrongLink
 pair-of a b e c ka kb ke kc h = rw (ka, kb, ke, kc) at h
 
-module _ (l : Limits) (r : Road) (kept : Keeps (rule.Element element.LinkedArcs) l r) where
+module _ {r : Road} (A : Accepted r) where
+  kept : Keeps (rule.Element element.LinkedArcs) (limits r) r
+  kept = A .kept (rule.Element element.LinkedArcs)
+
   -- "One clothoid may stand between two arcs of the same turn and different radii"
   pub egg-arcs : (i : ℕ) → Stands r 1 i → Stands r 2 (suc i) → Stands r 1 (suc (suc i)) → Egg (elementOf r i .radius) (elementOf r (suc (suc i)) .radius)
   egg-arcs i a c b = right-egg _ _ (egg-of _ (elementOf r i) (elementOf r (suc i)) (elementOf r (suc (suc i))) (a .is) (c .is) (b .is) (kept (suc i) (c .within)))

@@ -1,18 +1,17 @@
 -- What holds of an accepted road: its numbers are in range, no rule is broken, the facts that follow from that, and the crossfall's denominator is above 0.
 use mathlib.Core.Path.{_≡_, refl, subst}
-use Prim.Native.Nat.{ℕ, suc, _-_, _<_}
+use Prim.Native.Nat.{ℕ, _-_, _<_}
 use native.Mathlib.Omega.{arith}
 use mathlib.Core.List.{List}
 use borrow.Author.Tests.{eqb-true, ltb-false, not-false}
 use Rattle.file_numbers.specs.Reading.{got}
 use Rattle.road.specs.File.{Road, read}
 use Rattle.road.specs.Limits.{limits}
-use Rattle.road.specs.Exact.{Side, elementOf, pointAt, crossfallBy, crossfall}
+use Rattle.road.specs.Exact.{Side, pointAt, crossfallBy, crossfall}
 use Rattle.road.specs.Rules.{otherTotal, Verdict, passes, breaks, order, judged, accepted, under}
 use Rattle.laws_of_acceptance.specs.Facts.{Facts}
 use Rattle.laws_of_acceptance.specs.Judging.{Keeps, kept-by-name, passes-kept}
-use Rattle.laws_of_acceptance.specs.PlanOrder.{Stands, PlanOrder, plan-order}
-use Rattle.laws_of_acceptance.specs.Links.{Egg, egg-arcs}
+use Rattle.laws_of_acceptance.specs.PlanOrder.{PlanOrder, plan-order}
 use Rattle.laws_of_acceptance.specs.PointOrder.{PointOrder, point-order, pair-at}
 use Rattle.road.specs.declared.Rule.{Rule}
 use Rattle.road.specs.declared.Rule.the-variants as rule
@@ -41,10 +40,6 @@ points-ordered {r} a = point-order (limits r) r (a .kept (rule.Point point.Mispl
 -- rule 7
 pub plan-ordered : {r : Road} → Accepted r → PlanOrder r
 plan-ordered {r} a = plan-order (limits r) r (a .kept (rule.Element element.Kinds))
-
--- rule 23
-pub eggs-linked : {r : Road} → Accepted r → (i : ℕ) → Stands r 1 i → Stands r 2 (suc i) → Stands r 1 (suc (suc i)) → Egg (elementOf r i .radius) (elementOf r (suc (suc i)) .radius)
-eggs-linked {r} a = egg-arcs (limits r) r (a .kept (rule.Element element.LinkedArcs))
 
 pub crossfall-positive : {r : Road} → Accepted r → (d : Side) (s : ℕ) → 0 < crossfall d r s .den
 unfolding crossfall crossfallBy
