@@ -92,20 +92,20 @@ tooLong end = ltb 100_000_000 end
 unfoldable pub otherTotal : Road → Bool
 otherTotal r = not (eqb (tangentStart r (length (r .tangents))) (total r))
 
--- what may follow an element and the one before it: a clothoid leads into an arc, or, behind an arc, on to a straight, to the next arc ("egg") or to a second clothoid; a straight and an arc lead into a clothoid
+-- what may follow an element and the one before it: a straight and an arc lead into a clothoid, a clothoid into an arc; behind an arc it may lead on to a straight or to a second clothoid too
 unfoldable pub mayFollow : (earlier before e : Element) → Bool
 mayFollow earlier before e =
     if isClothoid before
     then isArc e || isArc earlier && (isStraight e || isClothoid e)
     else isClothoid e
 
--- "beginning .. with a straight"
+-- "beginning .. with a straight"; what follows, by the two before it
 abbrev pub mayStand : (place : ℕ) → (earlier before e : Element) → Bool
 mayStand zero earlier before e = isStraight e
 mayStand (suc _) earlier before e = mayFollow earlier before e
 
--- 7. "its place is the first element whose kind no allowed order, however long, can have after the kinds before it, or the plan count where it stops short": a plan ends with a straight.
--- The allowed orders stand in `Kinds`; that this is their first place without a continuation is a theorem, `laws_of_acceptance/Kinds`.
+-- 7. "its place is the first element whose kind no allowed order, however long, can have after the kinds before it, or the plan count where it stops short"; "ending with a straight".
+-- The allowed orders are `Kinds.AllowedOrder`; that they are just those that this test lets through, and that its first place is the paper's, are theorems (laws_of_acceptance/Kinds).
 unfoldable pub wrongKind : (place count : ℕ) → (earlier before e : Element) → Bool
 wrongKind place count earlier before e =
     if ltb place count
@@ -119,11 +119,11 @@ wrongEgg first second =
     || ltb 1_000_000 (natAbs first) || ltb 1_000_000 (natAbs second)
 
 -- 23. "An egg with .., or a pair of clothoids between arcs of the same turn, is refused with 23 right after 7, its place being the clothoid, the second one of a pair."
+-- A clothoid that leads into an arc, from an arc, or from a clothoid and an arc before that.
 unfoldable pub wrongLink : (earlier before e after : Element) → Bool
 wrongLink earlier before e after =
-    isClothoid e && isArc after
-    && (isArc before && wrongEgg (before .radius) (after .radius)
-    || isClothoid before && isArc earlier && sameTurn (earlier .radius) (after .radius))
+    isClothoid e && isArc after && isArc before && wrongEgg (before .radius) (after .radius)
+    || isClothoid e && isArc after && isClothoid before && isArc earlier && sameTurn (earlier .radius) (after .radius)
 
 -- 8. "A straight is longer than straight max (place: element)."
 abbrev pub longStraight : Limits → Element → Bool
