@@ -34,7 +34,7 @@ fn turned_away(number: u32, place: usize) -> Acceptance
     }
 }
 
-// Refusals 1 to 19 and 22 of a file, or its road.
+// Refusals 1 to 19, 22 and 23 of a file, or its road.
 pub fn accept(file: &[u8]) -> Acceptance
     ensures { λ r. ⌜ r ≡ asAccepted (accepted (now (file .entry))) ⌝ }
 {

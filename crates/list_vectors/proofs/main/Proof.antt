@@ -1,4 +1,5 @@
 use Prim.Native.Nat.{_-_}
+use native.Mathlib.Omega.{arith}
 use lib.ListN.{length}
 use borrow.Author.Needs.{needs}
 use Rattle.list_vectors.proofs.main.Statement.{statement}
@@ -13,5 +14,5 @@ abbrev μ-loop : tie.MeasureT-loop
 pub main-spec : {M : Type 1} → statement M
 main-spec =
     tie.close
-    (tie.spec Inv-loop μ-loop (λ c. search needs) (λ c _. search needs) (λ c. search needs) (λ c. search needs) (λ c. tt) (λ c _. search needs) (λ c. search needs) (λ c. search needs)
+    (tie.spec Inv-loop μ-loop (λ c. search needs) (λ c _. search needs) (λ c. search needs) (λ c. search needs) (λ c. tt) (λ c _. search needs) (λ c. search needs) (λ c. omega arith)
     (λ c. tt) (λ c. search needs))

@@ -1,5 +1,6 @@
 use Prim.Native.Nat.{_-_}
 use mathlib.Core.Path.{_≡_}
+use native.Mathlib.Omega.{arith}
 use lib.ListN.{length}
 use borrow.Author.Needs.{needs}
 use Rattle.run_vectors.proofs.main.Statement.{statement}
@@ -15,4 +16,4 @@ pub main-spec : {M : Type 1} → statement M
 main-spec =
     tie.close
     (tie.spec Inv-loop μ-loop (λ c. search needs) (λ c _. search needs) (λ c. search needs) (λ c. search needs) (λ c. search needs) (λ c _. search needs) (λ c. search needs)
-    (λ c. search needs) (λ c. search needs) (λ c. search needs))
+    (λ c. omega arith) (λ c. search needs) (λ c. search needs))
