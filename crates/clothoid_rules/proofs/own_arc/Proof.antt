@@ -4,8 +4,8 @@ use mir.Syntax.{w32}
 use mir.Val.{SFits}
 use mir.Facts.{toZ-ofZ}
 use Rattle.road.specs.Rules.{ownArc}
-use Rattle.plan_rules.proofs.own_arc.Statement.{statement}
-use Rattle.plan_rules.proofs.own_arc.Tie as tie
+use Rattle.clothoid_rules.proofs.own_arc.Statement.{statement}
+use Rattle.clothoid_rules.proofs.own_arc.Tie as tie
 
 returns : tie.Need-returns
 unfolding ownArc

@@ -1,8 +1,8 @@
 use borrow.Author.Tests.{eq-eqb, ne-eqb}
 use Rattle.road.specs.Rules.{shortClothoid}
 use borrow.Author.Needs.{needs}
-use Rattle.plan_rules.proofs.is_short_clothoid.Statement.{statement}
-use Rattle.plan_rules.proofs.is_short_clothoid.Tie as tie
+use Rattle.clothoid_rules.proofs.is_short_clothoid.Statement.{statement}
+use Rattle.clothoid_rules.proofs.is_short_clothoid.Tie as tie
 
 returns : tie.Need-returns
 unfolding shortClothoid

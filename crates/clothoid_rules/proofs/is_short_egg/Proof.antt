@@ -1,8 +1,8 @@
 use mir.Facts.{toZ-ofZ}
 use borrow.Author.Needs.{needs}
 use Rattle.road.specs.Rules.{shortEgg}
-use Rattle.plan_rules.proofs.is_short_egg.Statement.{statement}
-use Rattle.plan_rules.proofs.is_short_egg.Tie as tie
+use Rattle.clothoid_rules.proofs.is_short_egg.Statement.{statement}
+use Rattle.clothoid_rules.proofs.is_short_egg.Tie as tie
 
 returns : tie.Need-returns
 unfolding shortEgg

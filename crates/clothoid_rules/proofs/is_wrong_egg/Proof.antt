@@ -1,8 +1,8 @@
 use mir.Facts.{toZ-ofZ}
 use borrow.Author.Needs.{needs}
 use Rattle.road.specs.Rules.{wrongEgg}
-use Rattle.plan_rules.proofs.is_wrong_egg.Statement.{statement}
-use Rattle.plan_rules.proofs.is_wrong_egg.Tie as tie
+use Rattle.clothoid_rules.proofs.is_wrong_egg.Statement.{statement}
+use Rattle.clothoid_rules.proofs.is_wrong_egg.Tie as tie
 
 returns : tie.Need-returns
 unfolding wrongEgg

@@ -1,8 +1,8 @@
 -- Under today's book the parameter, under the old handbook the length alone.
 use Rattle.road.specs.Rules.{tooShort}
 use borrow.Author.Needs.{needs}
-use Rattle.plan_rules.proofs.is_too_short.Statement.{statement}
-use Rattle.plan_rules.proofs.is_too_short.Tie as tie
+use Rattle.clothoid_rules.proofs.is_too_short.Statement.{statement}
+use Rattle.clothoid_rules.proofs.is_too_short.Tie as tie
 
 returns : tie.Need-returns
 unfolding tooShort

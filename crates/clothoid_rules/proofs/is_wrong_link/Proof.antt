@@ -9,8 +9,8 @@ use mir.Facts.{toZ-ofZ}
 use Rattle.laws_of_lists.specs.Tests.{or-left, or-right}
 use Rattle.road.specs.Exact.{isArc, isClothoid}
 use Rattle.road.specs.Rules.{wrongLink}
-use Rattle.plan_rules.proofs.is_wrong_link.Statement.{statement}
-use Rattle.plan_rules.proofs.is_wrong_link.Tie as tie
+use Rattle.clothoid_rules.proofs.is_wrong_link.Statement.{statement}
+use Rattle.clothoid_rules.proofs.is_wrong_link.Tie as tie
 
 neither : (a b : Bool) → (not a || not b) ≡ true → (a && b) ≡ false
 neither true b e = not-true b e

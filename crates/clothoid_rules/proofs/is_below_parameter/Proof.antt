@@ -3,8 +3,8 @@ use mir.Val.{SFits}
 use mir.Facts.{toZ-ofZ}
 use borrow.Author.Needs.{needs}
 use Rattle.road.specs.Rules.{belowParameter}
-use Rattle.plan_rules.proofs.is_below_parameter.Statement.{statement}
-use Rattle.plan_rules.proofs.is_below_parameter.Tie as tie
+use Rattle.clothoid_rules.proofs.is_below_parameter.Statement.{statement}
+use Rattle.clothoid_rules.proofs.is_below_parameter.Tie as tie
 
 returns : tie.Need-returns
 unfolding belowParameter
