@@ -1,5 +1,6 @@
 /*
- * Voardusk for C: the row of a station, the next listed station, and many rows at a time.
+ * Voardusk for C: the row of a station, the next listed station, many rows at a time, and the speeds at which a road
+ * would pass.
  *
  * Link with libvoardusk.a (`rt staticlib voardusk` writes it to target/staticlib; x86-64). No routine keeps state,
  * allocates or calls the system; each needs some 64 KB of stack, and memcpy and memset of the C library.
@@ -45,6 +46,13 @@ uint32_t voardusk_next_station(const uint8_t *file, size_t file_length, uint64_t
  */
 uint32_t voardusk_list(const uint8_t *file, size_t file_length, uint64_t station,
                        uint8_t *out, size_t out_length, uint64_t *answer, uint64_t *next);
+
+/*
+ * The speeds at which the road would pass every rule from 5 on, its own class and terrain put aside: *answer holds seven
+ * marks, 40 km/h in the lowest bit, 50 in the next, up to 100 in the seventh. Refused is only a file that cannot be
+ * read (1 to 4 and 22).
+ */
+uint32_t voardusk_marks(const uint8_t *file, size_t file_length, uint64_t *answer);
 
 #ifdef __cplusplus
 }

@@ -1,7 +1,7 @@
-//! Rows and listed stations of the alignment file of a two-lane rural road.
+//! Rows and listed stations of the alignment file of a two-lane rural road, and the speeds at which it would pass.
 //!
-//! Three routines, each a function of the file's bytes, a station in millimetres and a lent buffer. None keeps
-//! state, allocates, calls the system or panics; each needs some 64 KB of stack. A [`Refusal`] leaves the buffer
+//! Four routines, each a function of the file's bytes, and three of a station in millimetres and a lent buffer. None
+//! keeps state, allocates, calls the system or panics; each needs some 64 KB of stack. A [`Refusal`] leaves the buffer
 //! untouched.
 //!
 //! ```
@@ -12,6 +12,7 @@
 //! assert_eq!(station, Some(80_000));
 //! let row = voardusk::row(file, 80_000, &mut line)?;
 //! assert_eq!(row, b"80000 501600 20000 -25000 -25000 501531 501531 0\n");
+//! assert_eq!(voardusk::marks(file)?.speeds().collect::<Vec<_>>(), [40, 50]);
 //! # Ok(())
 //! # }
 //! ```
@@ -27,6 +28,9 @@ pub const LINE_LENGTH: usize = 96;
 
 /// A file has no more bytes than this; a longer one is refused with 1.
 pub const FILE_LENGTH: usize = 8192;
+
+/// The speeds in km/h that the rule book has rows for, in the order of the [`Marks`].
+pub const SPEEDS: [u32; 7] = [40, 50, 60, 70, 80, 90, 100];
 
 /// The number of the rule that turns a call away, and its place, counted from 0 (`docs/REFUSALS.md`).
 #[derive(Clone, Copy, Debug, PartialEq, Eq, Hash)]
@@ -65,6 +69,30 @@ pub struct Part<'b> {
     pub rows: &'b [u8],
     /// The listed station to go on from; none where the list is done.
     pub next: Option<u64>,
+}
+
+/// At which of the [`SPEEDS`] a road would pass.
+#[derive(Clone, Copy, Debug, PartialEq, Eq, Hash)]
+pub struct Marks {
+    number: u64,
+}
+
+impl Marks {
+    /// The seven marks as a number: 40 km/h in the lowest bit, 50 in the next, up to 100 in the seventh.
+    pub fn number(self) -> u64 {
+        self.number
+    }
+
+    /// Whether the mark of a speed stands; there is none at a speed that is not among the [`SPEEDS`].
+    pub fn stands_at(self, speed: u32) -> bool {
+        self.speeds().any(|passed| passed == speed)
+    }
+
+    /// The speeds whose marks stand, ascending.
+    pub fn speeds(self) -> impl Iterator<Item = u32> {
+        let marked = move |(bit, _): &(usize, u32)| self.number >> bit & 1 == 1;
+        (0..).zip(SPEEDS).filter(marked).map(|(_, speed)| speed)
+    }
 }
 
 /// The line of a station, listed or not, newline included: the first bytes of the buffer. Only they change.
@@ -118,6 +146,16 @@ pub fn list<'b>(file: &[u8], station: u64, out: &'b mut [u8]) -> Result<Part<'b>
     })
 }
 
+/// The speeds at which the road would pass every rule from 5 on, its own class and terrain put aside. Refused is only a
+/// file that cannot be read (1 to 4 and 22).
+pub fn marks(file: &[u8]) -> Result<Marks, Refusal> {
+    let mut answer = 0;
+    // SAFETY: each pointer comes from a reference with its own length, and no two of them overlap.
+    let number = unsafe { exported::voardusk_marks(file.as_ptr(), file.len(), &mut answer) };
+    accepted(number, answer)?;
+    Ok(Marks { number: answer })
+}
+
 /// 0 is no refusal.
 fn accepted(number: u32, place: u64) -> Result<(), Refusal> {
     match number {
@@ -159,5 +197,7 @@ mod exported {
             answer: &mut u64,
             next: &mut u64,
         ) -> u32;
+
+        pub fn voardusk_marks(file: *const u8, file_length: usize, answer: &mut u64) -> u32;
     }
 }
