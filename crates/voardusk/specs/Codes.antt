@@ -9,6 +9,8 @@ use Rattle.walk.specs.declared.Onward.{Onward}
 use Rattle.walk.specs.declared.Onward.the-variants as onwards
 use Rattle.listing.specs.Chunks.{Listed, turnedAway, part, ofList}
 use Rattle.listing.specs.declared.ListAnswer.{ListAnswer}
+use Rattle.speed_marks.specs.Marks as speeds
+use Rattle.speed_marks.specs.declared.MarksAnswer.{MarksAnswer}
 
 -- stands for "there is none": all 64 bits set
 abbrev pub markForNone : ℕ
@@ -48,6 +50,16 @@ abbrev pub listNextNumber : Listed → ℕ
 listNextNumber (turnedAway n p) = markForNone
 listNextNumber (part c) = goesOn (c .next)
 
+-- ---- the seven marks
+abbrev pub marksReturnedNumber : speeds.Marked → ℕ
+marksReturnedNumber (speeds.turnedAway n p) = n
+marksReturnedNumber (speeds.marked set) = 0
+
+-- the refusal's place, or the set
+abbrev pub marksAnswerNumber : speeds.Marked → ℕ
+marksAnswerNumber (speeds.turnedAway n p) = p
+marksAnswerNumber (speeds.marked set) = set
+
 -- ---- the case that a match has taken has the numbers of the answer
 pub row-said : {given taken : RowAnswer} {a : Answer} {l m : List ℕ} → given ≡ taken → (ofRow given ≡ a) × (l ≡ m) → (returnedNumber (ofRow taken) ≡ returnedNumber a) × ((answerNumber (ofRow taken) ≡ answerNumber a) × (l ≡ m))
 row-said e g = let q = sym (ap ofRow e) ∙ g .0 in (ap returnedNumber q, (ap answerNumber q, g .1))
@@ -57,3 +69,6 @@ next-said e g = let q = sym (ap ofNext e) ∙ g in (ap returnedNumber q, ap answ
 
 pub list-said : {given taken : ListAnswer} {a : Listed} {l m : List ℕ} → given ≡ taken → (ofList given ≡ a) × (l ≡ m) → (listReturnedNumber (ofList taken) ≡ listReturnedNumber a) × ((listAnswerNumber (ofList taken) ≡ listAnswerNumber a) × ((listNextNumber (ofList taken) ≡ listNextNumber a) × (l ≡ m)))
 list-said e g = let q = sym (ap ofList e) ∙ g .0 in (ap listReturnedNumber q, (ap listAnswerNumber q, (ap listNextNumber q, g .1)))
+
+pub marks-said : {given taken : MarksAnswer} {a : speeds.Marked} → given ≡ taken → speeds.ofMarks given ≡ a → (marksReturnedNumber (speeds.ofMarks taken) ≡ marksReturnedNumber a) × (marksAnswerNumber (speeds.ofMarks taken) ≡ marksAnswerNumber a)
+marks-said e g = let q = sym (ap speeds.ofMarks e) ∙ g in (ap marksReturnedNumber q, ap marksAnswerNumber q)

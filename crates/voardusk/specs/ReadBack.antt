@@ -27,7 +27,8 @@ use Rattle.walk.specs.AllChunks.{onward-listed}
 use Rattle.walk.specs.declared.Onward.{Onward}
 use Rattle.walk.specs.declared.Onward.the-variants as onwards
 use Rattle.listing.specs.Chunks.{Listed, turnedAway, part, listOn, listAnswer}
-use Rattle.voardusk.specs.Codes.{markForNone, returnedNumber, answerNumber, listReturnedNumber, listAnswerNumber, listNextNumber}
+use Rattle.speed_marks.specs.Marks as speeds
+use Rattle.voardusk.specs.Codes.{markForNone, returnedNumber, answerNumber, listReturnedNumber, listAnswerNumber, listNextNumber, marksReturnedNumber, marksAnswerNumber}
 
 -- ---- what a caller reads from the numbers
 abbrev pub rowSaid : (number answer : ℕ) → Answer
@@ -42,17 +43,26 @@ abbrev pub listSaid : (number answer next : ℕ) → Listed
 listSaid zero n s = part (record { bytes = n; next = if eqb s markForNone then onwards.Done else onwards.From s })
 listSaid (suc k) p s = turnedAway (suc k) p
 
+abbrev pub marksSaid : (number answer : ℕ) → speeds.Marked
+marksSaid zero set = speeds.marked set
+marksSaid (suc k) p = speeds.turnedAway (suc k) p
+
 -- ---- it is the answer
--- a refused file's number is 1 or more
+-- a number in a range from 1 on, or beside it, is 1 or more
+above : {n low high other : ℕ} → 1 ≤ low → 1 ≤ other → WithinOr low high other n → 1 ≤ n
+above h k (inl w) = let l = w .low in omega arith
+above h k (inr e) = omega arith
+
+-- so is the number of a file that does not read
+read-above : (f : List ℕ) (n p : ℕ) → read f ≡ refused n p → 1 ≤ n
+read-above f n p e = above (omega arith) (omega arith) (read-number f n p e)
+
+-- and that of a refused file
 number-above : (f : List ℕ) (n p : ℕ) → accepted f ≡ refused n p → 1 ≤ n
 number-above f n p e = go (refused-iff f n p .0 e)
   where
-    above : {low high other : ℕ} → 1 ≤ low → 1 ≤ other → WithinOr low high other n → 1 ≤ n
-    above h k (inl w) = let l = w .low in omega arith
-    above h k (inr e) = omega arith
-
     go : (read f ≡ refused n p) ⊎ ByRule f n p → 1 ≤ n
-    go (inl r) = above (omega arith) (omega arith) (read-number f n p r)
+    go (inl r) = read-above f n p r
     go (inr b) = above (omega arith) (omega arith) (rule-number (limits (b .road)) (b .road) (b .lowest))
 
 row-refusal : (n p : ℕ) → 1 ≤ n → rowSaid n p ≡ refusal n p
@@ -67,6 +77,10 @@ list-refusal : (n p s : ℕ) → 1 ≤ n → listSaid n p s ≡ turnedAway n p
 list-refusal zero p s h = absurd (omega arith)
 list-refusal (suc k) p s h = refl
 
+marks-refusal : (n p : ℕ) → 1 ≤ n → marksSaid n p ≡ speeds.turnedAway n p
+marks-refusal zero p h = absurd (omega arith)
+marks-refusal (suc k) p h = refl
+
 -- a station of a road is not the mark
 not-mark : (s : ℕ) → s ≤ 100000000 → eqb s markForNone ≡ false
 not-mark s h = ne-eqb s markForNone (λ e. omega arith)
@@ -80,6 +94,9 @@ NextBack a = nextSaid (returnedNumber a) (answerNumber a) ≡ a
 
 abbrev ListBack : Listed → Type 0
 ListBack a = listSaid (listReturnedNumber a) (listAnswerNumber a) (listNextNumber a) ≡ a
+
+abbrev MarksBack : speeds.Marked → Type 0
+MarksBack a = marksSaid (marksReturnedNumber a) (marksAnswerNumber a) ≡ a
 
 pub row-read-back : (f : List ℕ) (s room : ℕ) → RowBack (rowAnswer f s room)
 unfolding rowAnswer
@@ -127,3 +144,11 @@ list-read-back f s room = go (accepted f) refl
     go : (g : Got Road) → accepted f ≡ g → ListBack (listOn s room g)
     go (refused n p) e = list-refusal n p markForNone (number-above f n p e)
     go (got r end) e = by (guaranteed f r end e) (ltb room 96)
+
+pub marks-read-back : (f : List ℕ) → MarksBack (speeds.marksAnswer f)
+unfolding speeds.marksAnswer
+marks-read-back f = go (read f) refl
+  where
+    go : (g : Got Road) → read f ≡ g → MarksBack (speeds.marksOn g)
+    go (refused n p) e = marks-refusal n p (read-above f n p e)
+    go (got r end) e = refl

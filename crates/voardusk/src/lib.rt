@@ -1,13 +1,15 @@
-// The routines for programs in other languages: the row of a station, the next listed station, many rows at a time.
+// The routines for programs in other languages: the row of a station, the next listed station, many rows at a time, the speeds at which a road would pass.
 // Each returns 0, or a refusal's number with its place in `answer`.
 ghost use mathlib.Core.Path.{_≡_};
 ghost use lib.ListN.{length};
 ghost use Rattle.road.specs.Machine.{rowAnswer, rowBuffer, nextAnswer};
 ghost use Rattle.listing.specs.Chunks.{listAnswer, listBuffer};
-ghost use Rattle.voardusk.specs.Codes.{returnedNumber, answerNumber, listReturnedNumber, listAnswerNumber, listNextNumber};
+ghost use Rattle.speed_marks.specs.Marks.{marksAnswer};
+ghost use Rattle.voardusk.specs.Codes.{returnedNumber, answerNumber, listReturnedNumber, listAnswerNumber, listNextNumber, marksReturnedNumber, marksAnswerNumber};
 use listing::ListAnswer;
 use road::NextAnswer;
 use road::RowAnswer;
+use speed_marks::MarksAnswer;
 
 // Stands for "there is no station": all 64 bits set. No road is so long.
 pub const NO_STATION: u64 = 18446744073709551615;
@@ -80,6 +82,24 @@ pub extern "C" fn voardusk_list(
         }
         ListAnswer::Done(bytes) => {
             *answer = bytes as u64;
+            0
+        }
+    }
+}
+
+// The seven marks in `answer`, 40 km/h in the lowest bit: at which speeds the road would pass.
+#[no_mangle]
+pub extern "C" fn voardusk_marks(file: &[u8], answer: &mut u64) -> u32
+    ensures { λ r. ⌜ r ≡ marksReturnedNumber (marksAnswer (now (file .entry))) ⌝ }
+    ensures { λ _. ⌜ now (answer .exit) ≡ marksAnswerNumber (marksAnswer (now (file .entry))) ⌝ }
+{
+    match speed_marks::marks(file) {
+        MarksAnswer::Refused(number, place) => {
+            *answer = place as u64;
+            number
+        }
+        MarksAnswer::Marks(set) => {
+            *answer = set as u64;
             0
         }
     }

@@ -1,0 +1,4 @@
+pub mod Marks
+pub mod Sets
+pub mod Standing
+pub mod AtSpeeds
