@@ -50,11 +50,16 @@ const RULES: [Rule; 16] = [
     rule(19, &[7, 16], wrong_crossfall_on_arc),
 ];
 
-/// "from 5 on, the lowest refusal wins, then the first item"; 23 is asked between 7 and 8.
+/// The rules from 5 on, with the row of the road's own class and terrain.
 pub fn judge(alignment: &Alignment) -> Result<(), Refusal> {
-    let limits = limits(alignment);
+    judge_with(alignment, &limits(alignment))
+}
+
+/// "from 5 on, the lowest refusal wins, then the first item"; 23 is asked between 7 and 8. The row decides every
+/// limit, the lane width of refusal 18 too.
+pub fn judge_with(alignment: &Alignment, limits: &Limits) -> Result<(), Refusal> {
     for rule in &RULES {
-        if let Some(&place) = (rule.broken_at)(alignment, &limits).first() {
+        if let Some(&place) = (rule.broken_at)(alignment, limits).first() {
             return Err(refusal(rule.number, place));
         }
     }

@@ -1,6 +1,7 @@
-//! The starred items and the sample list of document 01, and requests A.1 to A.3.
+//! The starred items and the sample list of document 01, and requests A.1 to A.4.
 
 mod contract_date;
+mod marks;
 mod reversing_bends_and_eggs;
 mod two_rule_books;
 
