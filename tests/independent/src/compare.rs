@@ -9,7 +9,9 @@ use crate::hexadecimal;
 use crate::summary::Summary;
 use reference::blade::{neighbouring, Row};
 use reference::file::{Alignment, Refusal};
+use reference::limits::SPEEDS;
 use reference::machine::{self, Answer, PartAnswer};
+use reference::marks;
 use reference::{road, stations};
 
 fn refusal(refusal: voardusk::Refusal) -> Refusal {
@@ -346,6 +348,21 @@ fn compare_whole_list(
     Ok(())
 }
 
+/// Compares the seven marks, as a number and speed by speed.
+fn compare_marks(file: &[u8]) -> Result<(), String> {
+    let passes = |marks: voardusk::Marks| SPEEDS.map(|speed| marks.stands_at(speed as u32));
+    let library = voardusk::marks(file)
+        .map(|marks| (i128::from(marks.number()), passes(marks)))
+        .map_err(refusal);
+    let reference = marks::marks(file).map(|marks| (marks.number(), marks.stands));
+    if library == reference {
+        return Ok(());
+    }
+    Err(format!(
+        "call: marks\nthe library's answer: {library:?}\nthe reference's answer: {reference:?}"
+    ))
+}
+
 /// Compares one file; the reference's verdict on it.
 pub fn compare_file(
     random: &mut Random,
@@ -357,6 +374,7 @@ pub fn compare_file(
     let lent = file.to_vec();
     let compared = compare_run(random, &lent, road, summary)
         .and_then(|()| compare_lists(random, &lent, road, summary))
+        .and_then(|()| compare_marks(&lent))
         .and_then(|()| match lent == file {
             true => Ok(()),
             false => Err("the file itself was changed".to_string()),

@@ -7,6 +7,7 @@ mod compare;
 mod generate;
 mod halves;
 mod hexadecimal;
+mod marks;
 mod summary;
 mod vectors;
 
@@ -22,6 +23,7 @@ use summary::Summary;
 
 const USAGE: &str = "independent [--files N] [--seed S] [--only KIND] [--index I] [--keep DIR]
 independent --vectors DIR
+independent --marks FILE
 KIND is valid, limit, broken, flipped, several, absurd or extreme.";
 
 struct Options {
@@ -31,6 +33,7 @@ struct Options {
     index: Option<u64>,
     keep: Option<PathBuf>,
     vectors: Option<PathBuf>,
+    marks: Option<PathBuf>,
 }
 
 impl Options {
@@ -42,6 +45,7 @@ impl Options {
             index: None,
             keep: None,
             vectors: None,
+            marks: None,
         };
         while let Some(name) = arguments.next() {
             let value = arguments.next().ok_or(format!("{name} needs a value"))?;
@@ -55,6 +59,7 @@ impl Options {
                 }
                 "--keep" => options.keep = Some(PathBuf::from(&value)),
                 "--vectors" => options.vectors = Some(PathBuf::from(&value)),
+                "--marks" => options.marks = Some(PathBuf::from(&value)),
                 _ => return Err(format!("unknown option {name}")),
             }
         }
@@ -131,10 +136,11 @@ fn compare_all(options: &Options) -> Result<Summary, String> {
     Ok(summary)
 }
 
-fn check_vectors(directory: &Path) -> ExitCode {
-    match vectors::check(directory) {
+/// Tells how many of the stored answers the reference gives.
+fn check_stored(path: &Path, check: fn(&Path) -> std::io::Result<vectors::Checked>) -> ExitCode {
+    match check(path) {
         Err(error) => {
-            eprintln!("{}: {error}", directory.display());
+            eprintln!("{}: {error}", path.display());
             ExitCode::from(2)
         }
         Ok((count, differing)) => {
@@ -156,7 +162,10 @@ fn main() -> ExitCode {
         }
     };
     if let Some(directory) = &options.vectors {
-        return check_vectors(directory);
+        return check_stored(directory, vectors::check);
+    }
+    if let Some(cases) = &options.marks {
+        return check_stored(cases, vectors::check_marks);
     }
     println!("seed {}", options.seed);
     match compare_all(&options) {

@@ -7,7 +7,9 @@ use crate::generate::features::{features, FEATURES};
 use crate::generate::valid::bends::{eggs, pairs};
 use crate::generate::{MadeFile, FILE_KINDS};
 use crate::halves::Halves;
+use crate::marks::MarksSeen;
 use reference::file::{read, Alignment, Refusal};
+use reference::marks::marks_of;
 
 pub struct Summary {
     pub files: u64,
@@ -26,6 +28,7 @@ pub struct Summary {
     /// Files inside and outside of each limit.
     pub edges: [[u64; 2]; EDGES.len()],
     pub halves: Halves,
+    pub marks: MarksSeen,
     pub row_calls: u64,
     pub next_calls: u64,
     pub list_calls: u64,
@@ -50,6 +53,7 @@ impl Summary {
             refused_calls: [0; 24],
             edges: [[0; 2]; EDGES.len()],
             halves: Halves::default(),
+            marks: MarksSeen::new(),
             row_calls: 0,
             next_calls: 0,
             list_calls: 0,
@@ -73,6 +77,7 @@ impl Summary {
         if let Ok(road) = read(&made.bytes) {
             self.egg_of_kind[place] += u64::from(!eggs(&road.elements).is_empty());
             self.pair_of_kind[place] += u64::from(!pairs(&road.elements).is_empty());
+            self.marks.count(&road, marks_of(&road));
         }
         match verdict {
             Err(refusal) => self.refused_files[refusal.number as usize] += 1,
@@ -124,6 +129,7 @@ impl fmt::Display for Summary {
             writeln!(to, "  {name:<30} {count:>6}")?;
         }
         write!(to, "{}", self.halves)?;
+        write!(to, "{}", self.marks)?;
         writeln!(to, "calls of row: {}", self.row_calls)?;
         writeln!(to, "calls of next station: {}", self.next_calls)?;
         writeln!(to, "calls of list: {}", self.list_calls)?;

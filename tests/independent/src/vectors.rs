@@ -4,10 +4,15 @@ use std::fs;
 use std::path::Path;
 
 use crate::hexadecimal;
+use reference::file::Refusal;
 use reference::machine::{self, Answer};
+use reference::marks;
 
-/// Checks NNNN.in against NNNN.out and NNNN.run; the count of files, and those that differ.
-pub fn check(directory: &Path) -> std::io::Result<(usize, Vec<(String, String)>)> {
+/// The count of files, and those that differ.
+pub type Checked = (usize, Vec<(String, String)>);
+
+/// Checks NNNN.in against NNNN.out and NNNN.run.
+pub fn check(directory: &Path) -> std::io::Result<Checked> {
     let mut paths: Vec<_> = fs::read_dir(directory)?
         .filter_map(|entry| entry.ok().map(|entry| entry.path()))
         .filter(|path| path.extension().is_some_and(|extension| extension == "in"))
@@ -64,9 +69,40 @@ fn check_run(file: &[u8], run: &str) -> Result<(), String> {
     Ok(())
 }
 
+/// Checks lines of a file in hexadecimal, ` = ` and its marks as a number, or the refusal.
+pub fn check_marks(cases: &Path) -> std::io::Result<Checked> {
+    let text = fs::read_to_string(cases)?;
+    let mut differing = Vec::new();
+    for (place, line) in text.lines().enumerate() {
+        if let Err(difference) = check_marks_of(line) {
+            differing.push((format!("line {}", place + 1), difference));
+        }
+    }
+    Ok((text.lines().count(), differing))
+}
+
+fn check_marks_of(line: &str) -> Result<(), String> {
+    let (file, theirs) = line.split_once(" = ").ok_or("a line without an answer")?;
+    let no_bytes = file == "-";
+    let digits = if no_bytes { "" } else { file };
+    let file = hexadecimal::read(digits).ok_or("a file that is not hexadecimal")?;
+    let ours = match marks::marks(&file) {
+        Ok(marks) => marks.number().to_string(),
+        Err(refusal) => text_of(refusal),
+    };
+    if ours != theirs {
+        return Err(format!("expected {theirs}, the reference gives {ours}"));
+    }
+    Ok(())
+}
+
+fn text_of(refusal: Refusal) -> String {
+    format!("R {} {}", refusal.number, refusal.place)
+}
+
 fn text(answer: &Answer) -> String {
     match answer {
-        Answer::Refused(refusal) => format!("R {} {}", refusal.number, refusal.place),
+        Answer::Refused(refusal) => text_of(*refusal),
         Answer::Line(length) => format!("len {length}"),
         Answer::Station(station) => format!("station {station}"),
         Answer::NoStation => "none".to_string(),
