@@ -8,7 +8,7 @@ use crate::generate::valid::bends::eggs;
 use crate::hexadecimal;
 use crate::summary::Summary;
 use reference::blade::{neighbouring, Row};
-use reference::file::{Alignment, Refusal};
+use reference::file::{read, Alignment, Refusal};
 use reference::limits::SPEEDS;
 use reference::machine::{self, Answer, PartAnswer};
 use reference::marks;
@@ -361,6 +361,14 @@ fn compare_marks(file: &[u8]) -> Result<(), String> {
     Err(format!(
         "call: marks\nthe library's answer: {library:?}\nthe reference's answer: {reference:?}"
     ))
+}
+
+/// What the papers say of a file with the row of a speed in place of the class's.
+pub fn refusal_at(file: &[u8], speed: i128) -> Option<Refusal> {
+    match read(file) {
+        Ok(road) => marks::first_refusal_at(&road, speed),
+        Err(refusal) => Some(refusal),
+    }
 }
 
 /// Compares one file; the reference's verdict on it.

@@ -7,6 +7,7 @@ mod compare;
 mod generate;
 mod halves;
 mod hexadecimal;
+mod limits_seen;
 mod marks;
 mod summary;
 mod vectors;
@@ -24,7 +25,7 @@ use summary::Summary;
 const USAGE: &str = "independent [--files N] [--seed S] [--only KIND] [--index I] [--keep DIR]
 independent --vectors DIR
 independent --marks FILE
-KIND is valid, limit, broken, flipped, several, absurd or extreme.";
+KIND is valid, designed, mixed, limit, broken, flipped, several, absurd or extreme.";
 
 struct Options {
     files: u64,
@@ -77,20 +78,27 @@ fn compare_index(options: &Options, index: u64, summary: &mut Summary) -> Result
         return Err(describe(options, index, &made, "a panic, told above"));
     };
     summary.count_file(&made, &verdict);
-    if let Some((edge, outside)) = made.edge {
-        summary.edges[edge][usize::from(outside)] += 1;
-    }
-    let refusal = verdict.err();
-    let judged = match made.expected {
-        Some(expected) if !expected.holds(refusal) => Err(format!(
-            "the file was made for {expected:?}, the reference says {refusal:?}"
-        )),
-        _ => Ok(()),
+    summary.count_limit(&made);
+    compared
+        .and_then(|()| judge_made(&made))
+        .map_err(|difference| {
+            keep(options, index, &made);
+            describe(options, index, &made, &difference)
+        })
+}
+
+/// A file must be what it was made for.
+fn judge_made(made: &MadeFile) -> Result<(), String> {
+    let Some((expected, speed)) = made.expected else {
+        return Ok(());
     };
-    compared.and(judged).map_err(|difference| {
-        keep(options, index, &made);
-        describe(options, index, &made, &difference)
-    })
+    let refusal = compare::refusal_at(&made.bytes, speed);
+    if expected.holds(refusal) {
+        return Ok(());
+    }
+    Err(format!(
+        "the file was made for {expected:?} at {speed} km/h, the reference says {refusal:?}"
+    ))
 }
 
 fn keep(options: &Options, index: u64, made: &MadeFile) {

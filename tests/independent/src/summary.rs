@@ -2,11 +2,11 @@
 
 use std::fmt;
 
-use crate::generate::edges::EDGES;
 use crate::generate::features::{features, FEATURES};
 use crate::generate::valid::bends::{eggs, pairs};
 use crate::generate::{MadeFile, FILE_KINDS};
 use crate::halves::Halves;
+use crate::limits_seen::LimitsSeen;
 use crate::marks::MarksSeen;
 use reference::file::{read, Alignment, Refusal};
 use reference::marks::marks_of;
@@ -25,8 +25,7 @@ pub struct Summary {
     /// By refusal number.
     pub refused_files: [u64; 24],
     pub refused_calls: [u64; 24],
-    /// Files inside and outside of each limit.
-    pub edges: [[u64; 2]; EDGES.len()],
+    pub limits: LimitsSeen,
     pub halves: Halves,
     pub marks: MarksSeen,
     pub row_calls: u64,
@@ -51,7 +50,7 @@ impl Summary {
             features: [0; FEATURES.len()],
             refused_files: [0; 24],
             refused_calls: [0; 24],
-            edges: [[0; 2]; EDGES.len()],
+            limits: LimitsSeen::new(),
             halves: Halves::default(),
             marks: MarksSeen::new(),
             row_calls: 0,
@@ -90,6 +89,15 @@ impl Summary {
         }
     }
 
+    /// Counts the limit that a file was made for.
+    pub fn count_limit(&mut self, made: &MadeFile) {
+        let Some(edge) = made.edge else { return };
+        self.limits.count(edge);
+        if let (Ok(road), Some((_, speed))) = (read(&made.bytes), made.expected) {
+            self.limits.count_row(edge, speed, road.contract);
+        }
+    }
+
     pub fn count_refused_call(&mut self, number: i128) {
         self.refused_calls[number as usize] += 1;
     }
@@ -120,10 +128,7 @@ impl fmt::Display for Summary {
             let (files, calls) = (self.refused_files[number], self.refused_calls[number]);
             writeln!(to, "{number:>7} {files:>9} {calls:>9}")?;
         }
-        writeln!(to, "limit                       inside   outside")?;
-        for (edge, [inside, outside]) in EDGES.iter().zip(self.edges) {
-            writeln!(to, "  {:<24} {inside:>7} {outside:>9}", edge.name)?;
-        }
+        write!(to, "{}", self.limits)?;
         writeln!(to, "accepted files with               files")?;
         for ((name, _), count) in FEATURES.iter().zip(self.features) {
             writeln!(to, "  {name:<30} {count:>6}")?;

@@ -5,10 +5,10 @@ use super::edges::bends::spoil;
 use super::edges::plan::change_kind;
 use super::numbers::{bytes_of, file, number_bytes, numbers, Number};
 use super::random::Random;
-use super::valid::alignment;
+use super::road::Road;
 use super::valid::bends::{eggs, pairs, places_of};
-use reference::file::{Alignment, Contract, Kind};
-use reference::limits::limits;
+use super::valid::random_road;
+use reference::file::{Contract, Kind};
 
 const DAMAGES: [usize; 34] = [
     0, 1, 2, 2, 2, 2, 2, 3, 3, 3, 4, 4, 5, 6, 6, 7, 7, 7, 8, 9, 10, 11, 12, 12, 13, 14, 14, 15, 16,
@@ -16,8 +16,8 @@ const DAMAGES: [usize; 34] = [
 ];
 
 /// One rule is broken, mostly by little.
-pub fn damage_road(random: &mut Random, road: &mut Alignment) {
-    let limits = limits(road);
+pub fn damage_road(random: &mut Random, road: &mut Road) {
+    let limits = road.limits();
     let element = random.place(road.elements.len());
     let tangent = random.place(road.tangents.len());
     let point = random.place(road.points.len());
@@ -128,7 +128,7 @@ pub fn damage_bytes(random: &mut Random, bytes: &mut Vec<u8>) {
 
 /// Two to four damages at once.
 pub fn several(random: &mut Random) -> Vec<u8> {
-    let mut road = alignment(random);
+    let mut road = random_road(random);
     let damages = random.between(2, 4);
     let on_road = if random.chance(60) {
         damages
@@ -153,14 +153,14 @@ pub fn several(random: &mut Random) -> Vec<u8> {
 
 /// One damage of the bytes.
 pub fn broken(random: &mut Random) -> Vec<u8> {
-    let mut bytes = file(&alignment(random));
+    let mut bytes = file(&random_road(random));
     damage_bytes(random, &mut bytes);
     bytes
 }
 
 /// A few bits of a valid file are flipped.
 pub fn flipped(random: &mut Random) -> Vec<u8> {
-    let mut bytes = file(&alignment(random));
+    let mut bytes = file(&random_road(random));
     for _ in 0..random.between(1, 4) {
         let place = random.place(bytes.len());
         bytes[place] ^= 1 << random.place(8);

@@ -9,18 +9,24 @@ pub mod head;
 pub mod numbers;
 pub mod order;
 pub mod random;
+pub mod road;
 pub mod valid;
 
 #[cfg(test)]
 mod tests;
 
 use edges::{Expected, DATES, EDGES, FIRST_RULE};
+use head::Head;
 use random::Random;
+use road::Road;
+use valid::speeds::{mixed_road, road_of_any_speed};
 
 /// What a file is made for.
 #[derive(Clone, Copy, Debug, PartialEq, Eq)]
 pub enum FileKind {
     Valid,
+    Designed,
+    Mixed,
     Limit,
     Broken,
     Flipped,
@@ -30,14 +36,16 @@ pub enum FileKind {
 }
 
 /// The kinds with their names, and how many of 100 files are of each.
-pub const FILE_KINDS: [(FileKind, &str, usize); 7] = [
-    (FileKind::Valid, "valid", 26),
-    (FileKind::Limit, "limit", 36),
-    (FileKind::Broken, "broken", 6),
-    (FileKind::Flipped, "flipped", 8),
-    (FileKind::Several, "several", 10),
-    (FileKind::Absurd, "absurd", 4),
-    (FileKind::Extreme, "extreme", 10),
+pub const FILE_KINDS: [(FileKind, &str, usize); 9] = [
+    (FileKind::Valid, "valid", 20),
+    (FileKind::Designed, "designed", 9),
+    (FileKind::Mixed, "mixed", 5),
+    (FileKind::Limit, "limit", 40),
+    (FileKind::Broken, "broken", 4),
+    (FileKind::Flipped, "flipped", 5),
+    (FileKind::Several, "several", 8),
+    (FileKind::Absurd, "absurd", 2),
+    (FileKind::Extreme, "extreme", 7),
 ];
 
 pub fn kind_named(name: &str) -> Option<FileKind> {
@@ -50,11 +58,12 @@ pub fn name_of_kind(kind: FileKind) -> &'static str {
     entry.expect("a kind with a name").1
 }
 
-/// A file, why it was made, and what the paper must say of it where that is known.
+/// A file, why it was made, and what the papers must say of it where that is known.
 pub struct MadeFile {
     pub kind: FileKind,
     pub bytes: Vec<u8>,
-    pub expected: Option<Expected>,
+    /// What must be said of it, and with the row of which speed.
+    pub expected: Option<(Expected, i128)>,
     /// The limit, and whether the file is outside of it.
     pub edge: Option<(usize, bool)>,
 }
@@ -70,14 +79,25 @@ fn random_kind(random: &mut Random) -> FileKind {
     FileKind::Valid
 }
 
-/// A limit: the rules of a road and its date more often than the shape of the other numbers.
+/// A limit: those of a speed's row most often, then the other rules of a road and its date.
 fn random_edge(random: &mut Random) -> usize {
-    let places = match random.place(20) {
-        0..=9 => FIRST_RULE..EDGES.len(),
-        10..=12 => DATES,
-        _ => 0..EDGES.len(),
+    let places: Vec<usize> = match random.place(20) {
+        0..=7 => (0..EDGES.len()).filter(|&p| EDGES[p].of_row).collect(),
+        8..=12 => (FIRST_RULE..EDGES.len()).collect(),
+        13..=14 => DATES.collect(),
+        _ => (0..EDGES.len()).collect(),
     };
-    places.start + random.place(places.len())
+    random.pick(&places)
+}
+
+/// A road that passes at the speed that it is designed for.
+fn passing(kind: FileKind, road: &Road) -> MadeFile {
+    MadeFile {
+        kind,
+        bytes: numbers::file(road),
+        expected: Some((Expected::Accepted, road.speed)),
+        edge: None,
+    }
 }
 
 /// The file of an index; `only` holds it to one kind.
@@ -91,18 +111,20 @@ pub fn make_file(random: &mut Random, only: Option<FileKind>) -> MadeFile {
         edge: None,
     };
     match kind {
-        FileKind::Valid => MadeFile {
-            expected: Some(Expected::Accepted),
-            ..plain(numbers::file(&valid::alignment(random)))
-        },
+        FileKind::Valid => {
+            let head = Head::of_class(random);
+            passing(kind, &valid::road_of(random, head))
+        }
+        FileKind::Designed => passing(kind, &road_of_any_speed(random)),
+        FileKind::Mixed => plain(numbers::file(&mixed_road(random))),
         FileKind::Limit => {
             let place = random_edge(random);
             let outside = random.chance(50);
-            let (bytes, expected) = EDGES[place].make(random, outside);
+            let made = EDGES[place].make(random, outside);
             MadeFile {
-                expected: Some(expected),
+                expected: Some((made.expected, made.speed)),
                 edge: Some((place, outside)),
-                ..plain(bytes)
+                ..plain(made.bytes)
             }
         }
         FileKind::Broken => plain(damage::broken(random)),

@@ -1,6 +1,5 @@
 //! Roads that break two rules, so that "the lowest refusal wins" is seen for every pair; 23 comes between 7 and 8.
 
-use super::days::random_contract;
 use super::edges::bends::spoil;
 use super::head::Head;
 use super::numbers::file;
@@ -17,13 +16,7 @@ const RULES: [i128; 17] = [
 
 /// A road whose straights lie between arcs of one turn, that breaks two or three of the rules 5 to 19 and 23.
 pub fn rules_broken_together(random: &mut Random) -> Vec<u8> {
-    let (class, terrain) = random.pick(&[(1, 1), (1, 3), (2, 2), (2, 3), (3, 1), (3, 2), (4, 1)]);
-    let contract = random_contract(random);
-    let head = Head {
-        contract,
-        class,
-        terrain,
-    };
+    let head = Head::with(random, |limits| limits.straight_max.is_some());
     let limits = head.limits();
     let count = random.between(2, 3);
     let broken: Vec<i128> = (0..count).map(|_| random.pick(&RULES)).collect();

@@ -1,34 +1,53 @@
 //! The generator itself: what it makes, and that it reaches everything.
 
+use std::collections::BTreeSet;
+
 use super::absurd::extreme;
 use super::days::{contract_under, day_or_none};
 use super::edges::plan::change_kind;
 use super::edges::EDGES;
+use super::head::Head;
 use super::numbers::{file, numbers};
 use super::random::Random;
-use super::valid::alignment;
 use super::valid::bends::{eggs, kinds_run, pairs};
+use super::valid::speeds::road_of_any_speed;
+use super::valid::{random_road, road_of};
 use super::{make_file, FileKind};
+use crate::compare::refusal_at;
 use reference::day::is_day;
 use reference::file::{read, GREATEST_NUMBER};
-use reference::limits::{rule_book, RuleBook};
+use reference::limits::{rule_book, RuleBook, SPEEDS};
 use reference::machine::accept;
+use reference::marks::{first_refusal_at, marks};
 use reference::rules::judge_all;
 
 #[test]
 fn valid_roads_are_accepted() {
     for index in 0..3_000 {
         let mut random = Random::for_file(7, index);
-        let bytes = file(&alignment(&mut random));
+        let head = Head::of_class(&mut random);
+        let bytes = file(&road_of(&mut random, head));
         assert!(accept(&bytes).is_ok(), "index {index}");
     }
+}
+
+#[test]
+fn roads_pass_at_the_speed_that_they_are_designed_for() {
+    let mut counts = [0; SPEEDS.len()];
+    for index in 0..3_000 {
+        let road = road_of_any_speed(&mut Random::for_file(31, index));
+        assert_eq!(first_refusal_at(&road, road.speed), None, "index {index}");
+        let place = SPEEDS.iter().position(|&speed| speed == road.speed);
+        counts[place.expect("one of the speeds")] += 1;
+    }
+    assert!(counts.iter().all(|&count| count > 350), "{counts:?}");
 }
 
 #[test]
 fn many_valid_roads_have_eggs_and_pairs() {
     let mut counts = [0; 3];
     for index in 0..3_000 {
-        let road = alignment(&mut Random::for_file(29, index));
+        let road = random_road(&mut Random::for_file(29, index));
         let has = [eggs(&road.elements), pairs(&road.elements)].map(|places| !places.is_empty());
         counts[0] += u64::from(has[0]);
         counts[1] += u64::from(has[1]);
@@ -43,12 +62,13 @@ fn both_sides_of_every_limit_are_as_expected() {
         for index in 0..20 {
             for outside in [false, true] {
                 let mut random = Random::for_file(place as u64, index);
-                let (bytes, expected) = edge.make(&mut random, outside);
-                let refusal = accept(&bytes).err();
+                let made = edge.make(&mut random, outside);
+                let refusal = refusal_at(&made.bytes, made.speed);
                 assert!(
-                    expected.holds(refusal),
-                    "{} outside {outside} index {index}: {expected:?}, {refusal:?}",
-                    edge.name
+                    made.expected.holds(refusal),
+                    "{} outside {outside} index {index}: {:?}, {refusal:?}",
+                    edge.name,
+                    made.expected
                 );
             }
         }
@@ -95,7 +115,7 @@ fn kinds_run_where_refusal_7_passes_them() {
 #[test]
 fn numbers_of_a_road_are_read_back() {
     for index in 0..200 {
-        let road = alignment(&mut Random::for_file(11, index));
+        let road = random_road(&mut Random::for_file(11, index));
         let again = read(&file(&road)).expect("a file that can be read");
         let written = |road| numbers(road).iter().map(|n| n.written).collect::<Vec<_>>();
         assert_eq!(written(&road), written(&again));
@@ -125,13 +145,13 @@ fn a_contract_is_under_the_rule_book_asked_for() {
 }
 
 #[test]
-fn nearly_half_of_the_files_are_dated() {
+fn about_half_of_the_files_are_dated() {
     let dated = |index| {
         let made = make_file(&mut Random::for_file(19, index), None);
         made.bytes.first() == Some(&9)
     };
     let count = (0..5_000).filter(|&index| dated(index)).count();
-    assert!((2_000..2_500).contains(&count), "{count}");
+    assert!((2_500..3_000).contains(&count), "{count}");
 }
 
 #[test]
@@ -139,4 +159,35 @@ fn one_kind_alone_can_be_asked_for() {
     let mut random = Random::for_file(5, 1);
     let made = make_file(&mut random, Some(FileKind::Absurd));
     assert!(made.kind == FileKind::Absurd && made.edge.is_none());
+}
+
+/// Straight max and R' alone let a speed pass above one that does not: that leaves 24 sets.
+#[test]
+fn every_set_of_marks_that_can_be_is_made() {
+    let mut sets = BTreeSet::new();
+    for index in 0..20_000 {
+        let made = make_file(&mut Random::for_file(37, index), None);
+        sets.extend(marks(&made.bytes).map(|marks| marks.number()));
+    }
+    assert_eq!(sets.len(), 24, "{sets:?}");
+}
+
+/// Both sides of every limit of a row, at every speed whose row has it.
+#[test]
+fn limits_of_a_row_are_met_at_every_speed() {
+    for (place, edge) in EDGES.iter().enumerate().filter(|(_, edge)| edge.of_row) {
+        let mut speeds = BTreeSet::new();
+        for index in 0..300 {
+            let mut random = Random::for_file(place as u64, index);
+            speeds.insert(edge.make(&mut random, true).speed);
+        }
+        let least = match edge.name {
+            "10 at 70 of one book" | "12 by length alone" => 1,
+            "19 at another speed" => 4,
+            "8 straight max" | "8 at another speed" | "9 straight min" | "9 nearest arcs" => 5,
+            "18 narrower lane" => 6,
+            _ => 7,
+        };
+        assert_eq!(speeds.len(), least, "{} {speeds:?}", edge.name);
+    }
 }

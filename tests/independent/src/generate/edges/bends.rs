@@ -5,6 +5,7 @@ use super::{accepted_or_at, refused, refused_at, Made};
 use crate::generate::days::contract_under;
 use crate::generate::head::Head;
 use crate::generate::random::Random;
+use crate::generate::road::Road;
 use crate::generate::valid::bends::{
     bends_of_leads, bends_of_turns, egg_radius, eggs, pairs, places_of, random_leads, Bend, Lead,
     EGG_RADIUS_MAX,
@@ -13,7 +14,7 @@ use crate::generate::valid::plan::{
     least_clothoid, least_clothoid_at, least_egg, least_swing, plan_of,
 };
 use crate::generate::valid::{upon_plan, Size, LONGEST_LENGTH};
-use reference::file::{Alignment, Element, Kind};
+use reference::file::{Element, Kind};
 use reference::limits::{LeastClothoid, Limits, RuleBook};
 
 /// The sizes of roads with eggs and pairs: not so long that a clothoid could not be made longer.
@@ -45,13 +46,13 @@ fn plan_and_clothoid(
     (elements, clothoid)
 }
 
-fn road_upon(random: &mut Random, head: Head, elements: Vec<Element>) -> Alignment {
+fn road_upon(random: &mut Random, head: Head, elements: Vec<Element>) -> Road {
     let size = random_size(random);
     upon_plan(random, head, elements, &size)
 }
 
 /// A road with an egg or a pair, and the place of the egg or of the pair's second clothoid.
-fn road_with_lead(random: &mut Random, lead: Lead) -> (Alignment, usize) {
+fn road_with_lead(random: &mut Random, lead: Lead) -> (Road, usize) {
     let head = Head::random(random);
     let limits = head.limits();
     let (bends, bend) = bends_with(random, &limits, lead);
@@ -183,12 +184,7 @@ fn lengthen(element: &mut Element, more: i128) {
 }
 
 /// A road with an egg or a pair between such radii, its clothoids long enough for any crossfall.
-fn road_of_radii(
-    random: &mut Random,
-    head: Head,
-    lead: Lead,
-    radii: [i128; 2],
-) -> (Alignment, usize) {
+fn road_of_radii(random: &mut Random, head: Head, lead: Lead, radii: [i128; 2]) -> (Road, usize) {
     let limits = head.limits();
     let (bends, bend) = bends_of_radii(random, &limits, lead, radii);
     let (mut elements, clothoid) = plan_and_clothoid(random, &limits, &bends, bend);
@@ -409,6 +405,10 @@ fn head_of_today(random: &mut Random) -> Head {
 /// Length x R1 x R2 is A min squared x |R1 - R2|; outside the length or a radius is 1 off.
 pub fn egg_square(random: &mut Random, outside: bool) -> Made {
     let head = head_of_today(random);
+    egg_square_of(random, outside, head)
+}
+
+fn egg_square_of(random: &mut Random, outside: bool, head: Head) -> Made {
     let limits = head.limits();
     let LeastClothoid::Parameter(parameter) = limits.clothoid else {
         unreachable!("today's rule book has A min")
@@ -421,7 +421,7 @@ pub fn egg_square(random: &mut Random, outside: bool) -> Made {
         .filter(exact)
         .collect();
     if low < limits.radius_min || highs.is_empty() {
-        return egg_square(random, outside);
+        return egg_square_of(random, outside, head);
     }
     let high = random.pick(&highs);
     let length = least * (high - low) / (low * high);
@@ -432,7 +432,7 @@ pub fn egg_square(random: &mut Random, outside: bool) -> Made {
     };
     let (low, high, length) = (low - lower, high + higher, length - shorter);
     if low < limits.radius_min || high > EGG_RADIUS_MAX || length < 1 {
-        return egg_square(random, outside);
+        return egg_square_of(random, outside, head);
     }
     let turn = random.sign();
     let radii = random.pick(&[[turn * low, turn * high], [turn * high, turn * low]]);

@@ -24,11 +24,8 @@ fn contract(random: &mut Random, outside: bool, passing: RuleBook) -> Contract {
 
 /// "R min at 70 km/h is 180 m", today 175 m.
 pub fn radius_at_70(random: &mut Random, outside: bool) -> Made {
-    let head = Head {
-        contract: contract(random, outside, Today),
-        class: 2,
-        terrain: 3,
-    };
+    let contract = contract(random, outside, Today);
+    let head = Head::designed_for(random, 70, contract);
     let size = Size::with_bends(random, 1, 5);
     let mut radii: Vec<i128> = (0..size.bends)
         .map(|_| random.sign() * random.between_or_bound(180_000, 720_000))
@@ -36,8 +33,8 @@ pub fn radius_at_70(random: &mut Random, outside: bool) -> Made {
     let place = random.place(radii.len());
     radii[place] = random.sign() * random.between_or_bound(175_000, 179_999);
     let elements = plan_of_radii(random, &head.limits(), &size, &radii);
-    let alignment = upon_plan(random, head, elements, &size);
-    accepted_or(outside, &alignment, 10)
+    let road = upon_plan(random, head, elements, &size);
+    accepted_or(outside, &road, 10)
 }
 
 /// A clothoid that is long enough for A min, and too short for the old handbook.
@@ -49,7 +46,7 @@ pub fn clothoid_of_today(random: &mut Random, outside: bool) -> Made {
     changed_plan(random, outside, 12, head, 1, |random, _, elements, _| {
         let arc = random_arc(random, elements)?;
         let radius = &mut elements[arc].radius;
-        let least = |book, radius| least_clothoid_under(book, head.speed(), radius);
+        let least = |book, radius| least_clothoid_under(book, head.speed, radius);
         let longest = least(OldHandbook, *radius) - 1;
         // At 50 km/h the sharpest bends need more by A min.
         while least(Today, *radius) > longest {
@@ -66,19 +63,15 @@ pub fn egg_of_today(random: &mut Random, outside: bool) -> Made {
         contract: contract(random, outside, Today),
         ..Head::random(random)
     };
-    let [today, old] = [Today, OldHandbook].map(|book| limits_under(book, head.speed()));
+    let [today, old] = [Today, OldHandbook].map(|book| limits_under(book, head.speed));
     egg_below(random, outside, head, &today, &old)
 }
 
 /// A clothoid that is long enough for the old handbook, and too short for A min: at 50 km/h alone, and there
 /// beside the sharpest bends, below 55 m x 55 m / 40 m = 75.625 m.
 pub fn clothoid_of_old_handbook(random: &mut Random, outside: bool) -> Made {
-    let (class, terrain) = random.pick(&[(3, 3), (4, 2)]);
-    let head = Head {
-        contract: contract(random, outside, OldHandbook),
-        class,
-        terrain,
-    };
+    let contract = contract(random, outside, OldHandbook);
+    let head = Head::designed_for(random, 50, contract);
     changed_plan(random, outside, 12, head, 1, |random, _, elements, _| {
         let arc = random_arc(random, elements)?;
         let radius = &mut elements[arc].radius;

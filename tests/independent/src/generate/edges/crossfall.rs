@@ -3,28 +3,29 @@
 use super::{accepted_or, road_with, Made};
 use crate::generate::head::Head;
 use crate::generate::random::Random;
+use crate::generate::road::Road;
 use crate::generate::valid::bends::{bends_of_turns, Bend, Lead};
 use crate::generate::valid::crossfall::{arcs, point, superelevation, Crossfall};
 use crate::generate::valid::plan::plan_of;
 use crate::generate::valid::{
-    alignment, alignment_of, upon_plan, Size, LONGEST_LENGTH, LONGEST_PLAN,
+    random_road, road_of_size, upon_plan, Size, LONGEST_LENGTH, LONGEST_PLAN,
 };
-use reference::file::{Alignment, Element, Kind};
-use reference::limits::{limits, Limits};
+use reference::file::{Element, Kind};
+use reference::limits::Limits;
 
 pub fn first_point(random: &mut Random, outside: bool) -> Made {
-    let (mut alignment, _) = road_with(random, alignment, |road| {
+    let (mut road, _) = road_with(random, random_road, |road| {
         let room = road.points[1].station > 1;
         room.then_some(()).into_iter().collect()
     });
     if outside {
-        alignment.points[0].station = 1;
+        road.points[0].station = 1;
     }
-    accepted_or(outside, &alignment, 16)
+    accepted_or(outside, &road, 16)
 }
 
 pub fn beyond_forerunner(random: &mut Random, outside: bool) -> Made {
-    let (mut alignment, place) = road_with(random, alignment, |road| {
+    let (mut road, place) = road_with(random, random_road, |road| {
         (0..road.points.len() - 1)
             .filter(|&place| {
                 let (here, next) = (road.points[place], road.points[place + 1]);
@@ -33,22 +34,22 @@ pub fn beyond_forerunner(random: &mut Random, outside: bool) -> Made {
             })
             .collect()
     });
-    let here = alignment.points[place];
+    let here = road.points[place];
     let station = here.station + if outside { 0 } else { 1 };
     let added = point(station, (here.left, here.right));
-    alignment.points.insert(place + 1, added);
-    accepted_or(outside, &alignment, 16)
+    road.points.insert(place + 1, added);
+    accepted_or(outside, &road, 16)
 }
 
 pub fn last_point(random: &mut Random, outside: bool) -> Made {
-    let mut alignment = alignment(random);
+    let mut road = random_road(random);
     if outside {
-        let last = alignment.points.len() - 1;
-        let station = &mut alignment.points[last].station;
+        let last = road.points.len() - 1;
+        let station = &mut road.points[last].station;
         let before = *station == LONGEST_PLAN || random.chance(50);
         *station += if before { -1 } else { 1 };
     }
-    accepted_or(outside, &alignment, 16)
+    accepted_or(outside, &road, 16)
 }
 
 pub fn least_crossfall(random: &mut Random, outside: bool) -> Made {
@@ -60,7 +61,7 @@ pub fn greatest_crossfall(random: &mut Random, outside: bool) -> Made {
 }
 
 fn crossfall_bound(random: &mut Random, outside: bool, size: i128, beyond: i128) -> Made {
-    let (mut alignment, (place, is_left)) = road_with(random, alignment, |road| {
+    let (mut road, (place, is_left)) = road_with(random, random_road, |road| {
         let mut sides = Vec::new();
         for (place, point) in road.points.iter().enumerate() {
             if point.left.abs() == size {
@@ -73,7 +74,7 @@ fn crossfall_bound(random: &mut Random, outside: bool, size: i128, beyond: i128)
         sides
     });
     if outside {
-        let point = &mut alignment.points[place];
+        let point = &mut road.points[place];
         let side = if is_left {
             &mut point.left
         } else {
@@ -81,12 +82,12 @@ fn crossfall_bound(random: &mut Random, outside: bool, size: i128, beyond: i128)
         };
         *side += side.signum() * beyond;
     }
-    accepted_or(outside, &alignment, 17)
+    accepted_or(outside, &road, 17)
 }
 
 /// Pairs of points that are as near as the ramp limit allows.
-fn tight_pairs(road: &Alignment) -> Vec<usize> {
-    let lane_width = limits(road).lane_width;
+fn tight_pairs(road: &Road) -> Vec<usize> {
+    let lane_width = road.limits().lane_width;
     (0..road.points.len() - 1)
         .filter(|&place| {
             let (here, next) = (road.points[place], road.points[place + 1]);
@@ -100,25 +101,25 @@ fn tight_pairs(road: &Alignment) -> Vec<usize> {
 }
 
 pub fn ramp_distance(random: &mut Random, outside: bool) -> Made {
-    let (mut alignment, place) = road_with(random, alignment, |road| {
+    let (mut road, place) = road_with(random, random_road, |road| {
         let last = road.points.len() - 1;
         let movable = |&place: &usize| place > 0 || place + 1 < last;
         tight_pairs(road).into_iter().filter(movable).collect()
     });
     if outside {
-        let last = alignment.points.len() - 1;
+        let last = road.points.len() - 1;
         if place + 1 < last && (place == 0 || random.chance(50)) {
-            alignment.points[place + 1].station -= 1;
+            road.points[place + 1].station -= 1;
         } else {
-            alignment.points[place].station += 1;
+            road.points[place].station += 1;
         }
     }
-    accepted_or(outside, &alignment, 18)
+    accepted_or(outside, &road, 18)
 }
 
 pub fn ramp_limit(random: &mut Random, outside: bool) -> Made {
-    let (mut alignment, _) = road_with(random, alignment, |road| {
-        let lane_width = limits(road).lane_width;
+    let (mut road, _) = road_with(random, random_road, |road| {
+        let lane_width = road.limits().lane_width;
         let steepest = road
             .points
             .windows(2)
@@ -135,9 +136,9 @@ pub fn ramp_limit(random: &mut Random, outside: bool) -> Made {
         tight.then_some(()).into_iter().collect()
     });
     if outside {
-        alignment.ramp_limit -= 1;
+        road.ramp_limit -= 1;
     }
-    accepted_or(outside, &alignment, 18)
+    accepted_or(outside, &road, 18)
 }
 
 /// Lane width times change is ramp limit times distance, or 1 above.
@@ -161,7 +162,7 @@ pub fn ramp_product(random: &mut Random, outside: bool) -> Made {
         radius: 0,
     };
     let size = Size::with_bends(random, 0, 0);
-    let mut alignment = upon_plan(random, head, vec![straight], &size);
+    let mut road = upon_plan(random, head, vec![straight], &size);
     let low = random.between_or_bound(25_000, 70_000 - change);
     let (first, last) = random.pick(&[(low, low + change), (low + change, low)]);
     let (one, other) = (random.sign(), random.sign());
@@ -171,19 +172,19 @@ pub fn ramp_product(random: &mut Random, outside: bool) -> Made {
         ((level, one * first), (level, one * last)),
         ((one * first, other * first), (one * last, other * last)),
     ]);
-    alignment.ramp_limit = ramp_limit;
-    alignment.points = vec![point(0, ends.0), point(length, ends.1)];
-    accepted_or(outside, &alignment, 18)
+    road.ramp_limit = ramp_limit;
+    road.points = vec![point(0, ends.0), point(length, ends.1)];
+    accepted_or(outside, &road, 18)
 }
 
-fn road_with_bends(random: &mut Random) -> Alignment {
+fn road_with_bends(random: &mut Random) -> Road {
     let head = Head::random(random);
     let size = Size::with_bends(random, 1, 5);
-    alignment_of(random, head, &size)
+    road_of_size(random, head, &size)
 }
 
 /// Points where a ramp meets an end of an arc exactly; the place of the point.
-fn ramps_at_arcs(road: &Alignment, at_start: bool) -> Vec<usize> {
+fn ramps_at_arcs(road: &Road, at_start: bool) -> Vec<usize> {
     let stations: Vec<i128> = arcs(&road.elements)
         .iter()
         .map(|arc| if at_start { arc.start } else { arc.end })
@@ -204,29 +205,29 @@ fn ramps_at_arcs(road: &Alignment, at_start: bool) -> Vec<usize> {
 }
 
 pub fn ramp_ends_at_arc(random: &mut Random, outside: bool) -> Made {
-    let find = |road: &Alignment| ramps_at_arcs(road, true);
-    let (mut alignment, place) = road_with(random, road_with_bends, find);
+    let find = |road: &Road| ramps_at_arcs(road, true);
+    let (mut road, place) = road_with(random, road_with_bends, find);
     if outside {
-        alignment.points[place].station += 1;
+        road.points[place].station += 1;
     }
-    accepted_or(outside, &alignment, 19)
+    accepted_or(outside, &road, 19)
 }
 
 pub fn ramp_begins_at_arc(random: &mut Random, outside: bool) -> Made {
-    let find = |road: &Alignment| ramps_at_arcs(road, false);
-    let (mut alignment, place) = road_with(random, road_with_bends, find);
+    let find = |road: &Road| ramps_at_arcs(road, false);
+    let (mut road, place) = road_with(random, road_with_bends, find);
     if outside {
-        alignment.points[place].station -= 1;
+        road.points[place].station -= 1;
     }
-    accepted_or(outside, &alignment, 19)
+    accepted_or(outside, &road, 19)
 }
 
 /// A point on an arc, ends included, that keeps the arc's crossfall or is 1 ppm off.
 pub fn change_on_arc(random: &mut Random, outside: bool) -> Made {
     let lone = |random: &mut Random| level_road(random, |arc| superelevation(arc, 30_000));
-    let mut alignment = lone(random);
-    alignment.ramp_limit = 20_000;
-    let arcs = arcs(&alignment.elements);
+    let mut road = lone(random);
+    road.ramp_limit = 20_000;
+    let arcs = arcs(&road.elements);
     let arc = arcs[random.place(arcs.len())];
     let station = random.between_or_bound(arc.start, arc.end);
     let (left, right) = superelevation(arc.radius, 30_000);
@@ -236,12 +237,12 @@ pub fn change_on_arc(random: &mut Random, outside: bool) -> Made {
         (0, 0)
     };
     let added = point(station, (left + off_left, right + off_right));
-    alignment.points.insert(1, added);
-    accepted_or(outside, &alignment, 19)
+    road.points.insert(1, added);
+    accepted_or(outside, &road, 19)
 }
 
 /// A road whose bends turn one way, with one crossfall from start to end.
-fn level_road(random: &mut Random, crossfall: impl Fn(i128) -> Crossfall) -> Alignment {
+fn level_road(random: &mut Random, crossfall: impl Fn(i128) -> Crossfall) -> Road {
     let head = Head::random(random);
     let size = Size::with_bends(random, 1, 5);
     let limits = head.limits();
@@ -252,19 +253,19 @@ fn level_road(random: &mut Random, crossfall: impl Fn(i128) -> Crossfall) -> Ali
     turns[0].0 = Lead::Straight;
     let bends = bends_of_turns(random, &limits, &turns);
     let elements = plan_of(random, &limits, &size, &bends);
-    let mut alignment = upon_plan(random, head, elements, &size);
-    let end = alignment.total_length();
+    let mut road = upon_plan(random, head, elements, &size);
+    let end = road.total_length();
     let everywhere = crossfall(turn);
-    alignment.points = vec![point(0, everywhere), point(end, everywhere)];
-    alignment
+    road.points = vec![point(0, everywhere), point(end, everywhere)];
+    road
 }
 
 pub fn inner_side(random: &mut Random, outside: bool) -> Made {
     let size = random.between_or_bound(25_000, 70_000);
-    let alignment = level_road(random, |turn| {
+    let road = level_road(random, |turn| {
         superelevation(if outside { -turn } else { turn }, size)
     });
-    accepted_or(outside, &alignment, 19)
+    accepted_or(outside, &road, 19)
 }
 
 /// "left = -right", or 1 ppm off.
@@ -275,11 +276,11 @@ pub fn left_and_right(random: &mut Random, outside: bool) -> Made {
     } else {
         (0, 0)
     };
-    let alignment = level_road(random, |turn| {
+    let road = level_road(random, |turn| {
         let (left, right) = superelevation(turn, size);
         (left + off.0, right + off.1)
     });
-    accepted_or(outside, &alignment, 19)
+    accepted_or(outside, &road, 19)
 }
 
 /// -25,000 on both sides: from R' on; never where there is no R', nor any other value.
@@ -321,8 +322,8 @@ pub fn both_falling(random: &mut Random, outside: bool) -> Made {
         bends.push(Bend { lead, radius });
     }
     let elements = plan_of(random, &limits, &size, &bends);
-    let mut alignment = upon_plan(random, head, elements, &size);
-    let end = alignment.total_length();
-    alignment.points = vec![point(0, crossfall), point(end, crossfall)];
-    accepted_or(outside, &alignment, 19)
+    let mut road = upon_plan(random, head, elements, &size);
+    let end = road.total_length();
+    road.points = vec![point(0, crossfall), point(end, crossfall)];
+    accepted_or(outside, &road, 19)
 }

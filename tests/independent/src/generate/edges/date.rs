@@ -1,26 +1,26 @@
 //! The contract date: refusal 22, and 2 and 3 beside it.
 
-use super::{Expected, Made};
+use super::{accepted, made, Expected, Made};
 use crate::generate::days::{
     date, day_or_none, last_of_month, no_day, random_day, random_month, YEARS,
 };
 use crate::generate::head::Head;
-use crate::generate::numbers::{bytes_of, first_byte, number_bytes, numbers, Field, Number};
+use crate::generate::numbers::{bytes_of, file, first_byte, number_bytes, numbers, Field, Number};
 use crate::generate::random::Random;
-use crate::generate::valid::{alignment_of, Size};
+use crate::generate::road::Road;
+use crate::generate::valid::road_of;
 use reference::file::Contract;
 
 /// The date's first byte comes after the one byte of 9.
 const PLACE: usize = 1;
 
-/// The numbers of a road with a date, which may be no day: 9, the date, the class and what follows.
-fn dated_road(random: &mut Random, date: i128) -> Vec<Number> {
+/// A road with a date, which may be no day: its numbers are 9, the date, the class and what follows.
+fn dated_road(random: &mut Random, date: i128) -> Road {
     let head = Head {
         contract: Contract::Dated(date),
         ..Head::random(random)
     };
-    let size = Size::random(random);
-    numbers(&alignment_of(random, head, &size))
+    road_of(random, head)
 }
 
 fn day_or(outside: bool, random: &mut Random, date: i128) -> Made {
@@ -29,7 +29,8 @@ fn day_or(outside: bool, random: &mut Random, date: i128) -> Made {
     } else {
         Expected::Accepted
     };
-    (bytes_of(&dated_road(random, date)), expected)
+    let road = dated_road(random, date);
+    made(&road, file(&road), expected)
 }
 
 fn random_year(random: &mut Random) -> i128 {
@@ -93,7 +94,8 @@ pub fn any_number(random: &mut Random, outside: bool) -> Made {
 /// "is refused with 22 as it is read, before any later number": the class after the date is faulty.
 pub fn before_class(random: &mut Random, outside: bool) -> Made {
     let date = day_or_none(random, !outside);
-    let numbers = dated_road(random, date);
+    let road = dated_road(random, date);
+    let numbers = numbers(&road);
     let class = first_byte(&numbers, 2);
     let mut bytes = bytes_of(&numbers[..2]);
     let (faulty, number): (&[u8], i128) =
@@ -107,7 +109,7 @@ pub fn before_class(random: &mut Random, outside: bool) -> Made {
     } else {
         Expected::RefusedAt(number, class)
     };
-    (bytes, expected)
+    made(&road, bytes, expected)
 }
 
 /// A date that breaks off, is not in shortest form or exceeds the greatest is refused with 2, day or not.
@@ -118,7 +120,8 @@ pub fn shape_of_date(random: &mut Random, outside: bool) -> Made {
     }
     let is_day = random.chance(50);
     let date = day_or_none(random, is_day);
-    let numbers = dated_road(random, date);
+    let road = dated_road(random, date);
+    let numbers = numbers(&road);
     let mut written = number_bytes(numbers[1].written);
     let mut rest = bytes_of(&numbers[2..]);
     match random.place(3) {
@@ -135,32 +138,34 @@ pub fn shape_of_date(random: &mut Random, outside: bool) -> Made {
         _ => written = number_bytes(random.between_by_size(1 << 32, 1 << 63) as u64),
     }
     let bytes = [bytes_of(&numbers[..1]), written, rest].concat();
-    (bytes, Expected::RefusedAt(2, PLACE))
+    made(&road, bytes, Expected::RefusedAt(2, PLACE))
 }
 
 /// Any first number but 9 is the class, in its range.
 pub fn layout(random: &mut Random, outside: bool) -> Made {
     let date = random_day(random);
-    let mut numbers = dated_road(random, date);
+    let road = dated_road(random, date);
     if !outside {
-        return (bytes_of(&numbers), Expected::Accepted);
+        return accepted(&road);
     }
+    let mut numbers = numbers(&road);
     numbers[0].written = random.pick(&[0, 5, 8, 8, 10, 10, 128 + 9, date as u64]);
-    (bytes_of(&numbers), Expected::RefusedAt(3, 0))
+    made(&road, bytes_of(&numbers), Expected::RefusedAt(3, 0))
 }
 
 /// After the date comes the class, not a second date.
 pub fn second_date(random: &mut Random, outside: bool) -> Made {
     let date = random_day(random);
-    let mut numbers = dated_road(random, date);
+    let road = dated_road(random, date);
     if !outside {
-        return (bytes_of(&numbers), Expected::Accepted);
+        return accepted(&road);
     }
+    let mut numbers = numbers(&road);
     let class = first_byte(&numbers, 2);
     let again = [(Field::Layout, 9), (Field::Date, date as u64)];
     numbers.splice(
         2..2,
         again.map(|(field, written)| Number { field, written }),
     );
-    (bytes_of(&numbers), Expected::RefusedAt(3, class))
+    made(&road, bytes_of(&numbers), Expected::RefusedAt(3, class))
 }

@@ -7,12 +7,14 @@ mod date;
 pub mod plan;
 mod profile;
 mod shape;
+mod speeds;
 
 use std::ops::Range;
 
 use super::numbers::{file, Field};
 use super::random::Random;
-use reference::file::{Alignment, Refusal};
+use super::road::Road;
+use reference::file::Refusal;
 use shape::Bound;
 
 /// What the paper must say of a file.
@@ -39,11 +41,18 @@ impl Expected {
     }
 }
 
-pub type Made = (Vec<u8>, Expected);
+/// A file at a limit, and what the papers must say of it with the row of the speed that its road is designed for.
+pub struct Made {
+    pub bytes: Vec<u8>,
+    pub expected: Expected,
+    pub speed: i128,
+}
 
 /// A limit: its name, and what makes files inside and outside of it.
 pub struct Edge {
     pub name: &'static str,
+    /// "The row of the speed decides" it.
+    pub of_row: bool,
     maker: Maker,
 }
 
@@ -63,8 +72,18 @@ impl Edge {
 }
 
 const fn edge(name: &'static str, make: fn(&mut Random, bool) -> Made) -> Edge {
-    let maker = Maker::Road(make);
-    Edge { name, maker }
+    Edge {
+        name,
+        of_row: false,
+        maker: Maker::Road(make),
+    }
+}
+
+const fn of_row(name: &'static str, make: fn(&mut Random, bool) -> Made) -> Edge {
+    Edge {
+        of_row: true,
+        ..edge(name, make)
+    }
 }
 
 const fn bound(name: &'static str, field: Field, value: i128, beyond: i128) -> Edge {
@@ -73,7 +92,11 @@ const fn bound(name: &'static str, field: Field, value: i128, beyond: i128) -> E
         value,
         beyond,
     });
-    Edge { name, maker }
+    Edge {
+        name,
+        of_row: false,
+        maker,
+    }
 }
 
 /// Where the limits of the contract date are.
@@ -82,7 +105,7 @@ pub const DATES: Range<usize> = 6..18;
 /// Where the limits of refusals 5 to 19 and 23 begin.
 pub const FIRST_RULE: usize = 52;
 
-pub const EDGES: [Edge; 110] = [
+pub const EDGES: [Edge; 113] = [
     edge("1 longest file", shape::longest_file),
     edge("2 breaks off", shape::breaks_off),
     edge("2 shortest form", shape::shortest_form),
@@ -156,85 +179,97 @@ pub const EDGES: [Edge; 110] = [
     edge("23 first of several", bends::first_of_several),
     edge("23 before 8", bends::before_8),
     edge("23 after 7", bends::after_7),
-    edge("8 straight max", plan::straight_max),
-    edge("9 straight min", plan::straight_min),
+    of_row("8 straight max", plan::straight_max),
+    of_row("8 at another speed", speeds::straight_of_other_speed),
+    of_row("9 straight min", plan::straight_min),
     edge("9 turns", plan::turns),
-    edge("9 nearest arcs", bends::nearest_arcs),
+    of_row("9 nearest arcs", bends::nearest_arcs),
     edge("9 nearest turns", bends::nearest_turns),
-    edge("10 R min", plan::radius_min),
-    edge("10 at 70 of one book", books::radius_at_70),
-    edge("11 arc min", plan::arc_min),
-    edge("12 clothoid min", plan::clothoid_min),
-    edge("12 just the square", plan::clothoid_square),
-    edge("12 by A min alone", books::clothoid_of_today),
-    edge("12 by length alone", books::clothoid_of_old_handbook),
-    edge("12 egg min", bends::egg_min),
-    edge("12 egg, just the square", bends::egg_square),
-    edge("12 egg by A min alone", books::egg_of_today),
-    edge("12 first of a pair", bends::first_of_pair),
-    edge("12 second of a pair", bends::second_of_pair),
+    of_row("10 R min", plan::radius_min),
+    of_row("10 at 70 of one book", books::radius_at_70),
+    of_row("11 arc min", plan::arc_min),
+    of_row("12 clothoid min", plan::clothoid_min),
+    of_row("12 just the square", plan::clothoid_square),
+    of_row("12 by A min alone", books::clothoid_of_today),
+    of_row("12 by length alone", books::clothoid_of_old_handbook),
+    of_row("12 egg min", bends::egg_min),
+    of_row("12 egg, just the square", bends::egg_square),
+    of_row("12 egg by A min alone", books::egg_of_today),
+    of_row("12 first of a pair", bends::first_of_pair),
+    of_row("12 second of a pair", bends::second_of_pair),
     edge("12 own arc of a pair", bends::own_arc_of_pair),
-    edge("13 grade max", profile::grade_max),
+    of_row("13 grade max", profile::grade_max),
     edge("14 tangent and halves", profile::tangent_and_halves),
-    edge("15 sag", profile::sag),
-    edge("15 crest", profile::crest),
+    of_row("15 sag", profile::sag),
+    of_row("15 crest", profile::crest),
     edge("15 h = 0", profile::no_vertical_curve),
     edge("16 first point", crossfall::first_point),
     edge("16 beyond forerunner", crossfall::beyond_forerunner),
     edge("16 last point", crossfall::last_point),
     edge("17 low", crossfall::least_crossfall),
     edge("17 high", crossfall::greatest_crossfall),
-    edge("18 distance", crossfall::ramp_distance),
-    edge("18 ramp limit", crossfall::ramp_limit),
-    edge("18 just the product", crossfall::ramp_product),
+    of_row("18 distance", crossfall::ramp_distance),
+    of_row("18 ramp limit", crossfall::ramp_limit),
+    of_row("18 just the product", crossfall::ramp_product),
+    of_row("18 narrower lane", speeds::narrower_lane),
     edge("19 at arc start", crossfall::ramp_ends_at_arc),
     edge("19 at arc end", crossfall::ramp_begins_at_arc),
     edge("19 change on arc", crossfall::change_on_arc),
     edge("19 inner side", crossfall::inner_side),
     edge("19 left and right", crossfall::left_and_right),
-    edge("19 R'", crossfall::both_falling),
+    of_row("19 R'", crossfall::both_falling),
+    of_row("19 at another speed", speeds::falling_at_other_speed),
 ];
 
-fn accepted(alignment: &Alignment) -> Made {
-    (file(alignment), Expected::Accepted)
-}
-
-fn refused(alignment: &Alignment, number: i128) -> Made {
-    (file(alignment), Expected::Refused(number))
-}
-
-fn accepted_or(outside: bool, alignment: &Alignment, number: i128) -> Made {
-    if outside {
-        refused(alignment, number)
-    } else {
-        accepted(alignment)
+/// Bytes made of a road.
+fn made(road: &Road, bytes: Vec<u8>, expected: Expected) -> Made {
+    Made {
+        bytes,
+        expected,
+        speed: road.speed,
     }
 }
 
-fn refused_at(alignment: &Alignment, number: i128, place: usize) -> Made {
-    (file(alignment), Expected::RefusedAt(number, place))
+fn accepted(road: &Road) -> Made {
+    made(road, file(road), Expected::Accepted)
 }
 
-fn accepted_or_at(outside: bool, alignment: &Alignment, number: i128, place: usize) -> Made {
+fn refused(road: &Road, number: i128) -> Made {
+    made(road, file(road), Expected::Refused(number))
+}
+
+fn accepted_or(outside: bool, road: &Road, number: i128) -> Made {
     if outside {
-        refused_at(alignment, number, place)
+        refused(road, number)
     } else {
-        accepted(alignment)
+        accepted(road)
+    }
+}
+
+fn refused_at(road: &Road, number: i128, place: usize) -> Made {
+    made(road, file(road), Expected::RefusedAt(number, place))
+}
+
+fn accepted_or_at(outside: bool, road: &Road, number: i128, place: usize) -> Made {
+    if outside {
+        refused_at(road, number, place)
+    } else {
+        accepted(road)
     }
 }
 
 /// Tries roads until one has the place asked for.
 fn road_with<P>(
     random: &mut Random,
-    mut road: impl FnMut(&mut Random) -> Alignment,
-    find: impl Fn(&Alignment) -> Vec<P>,
-) -> (Alignment, P) {
+    mut make: impl FnMut(&mut Random) -> Road,
+    find: impl Fn(&Road) -> Vec<P>,
+) -> (Road, P) {
     loop {
-        let alignment = road(random);
-        let mut places = find(&alignment);
+        let road = make(random);
+        let mut places = find(&road);
         if !places.is_empty() {
             let place = places.swap_remove(random.place(places.len()));
-            return (alignment, place);
+            return (road, place);
         }
     }
 }

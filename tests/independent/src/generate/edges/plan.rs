@@ -4,18 +4,19 @@ use super::{accepted, accepted_or, accepted_or_at, refused, road_with, Made};
 use crate::generate::days::contract_under;
 use crate::generate::head::Head;
 use crate::generate::random::Random;
+use crate::generate::road::Road;
 use crate::generate::valid::bends::{
     arcs_without_egg, bends_of_leads, element_count, kinds_run, places_of, random_leads, Lead,
 };
 use crate::generate::valid::plan::{least_clothoid, plan, plan_of, plan_of_radii, stretch, total};
 use crate::generate::valid::{
-    alignment, alignment_of, upon_plan, Size, LONGEST_LENGTH, LONGEST_PLAN,
+    random_road, road_of_size, upon_plan, Size, LONGEST_LENGTH, LONGEST_PLAN,
 };
-use reference::file::{Alignment, Element, Kind};
+use reference::file::{Element, Kind};
 use reference::limits::{LeastClothoid, Limits, RuleBook};
 
 /// A road as long as a plan may be.
-fn longest_road(random: &mut Random) -> Alignment {
+fn longest_road(random: &mut Random) -> Road {
     let head = Head::random(random);
     let size = Size::with_bends(random, 4, 49);
     let limits = head.limits();
@@ -25,65 +26,65 @@ fn longest_road(random: &mut Random) -> Alignment {
 }
 
 pub fn plan_length(random: &mut Random, outside: bool) -> Made {
-    let (mut alignment, _) = road_with(random, longest_road, |road| {
+    let (mut road, _) = road_with(random, longest_road, |road| {
         let full = road.total_length() == LONGEST_PLAN;
         full.then_some(()).into_iter().collect()
     });
     if !outside {
-        return accepted(&alignment);
+        return accepted(&road);
     }
-    for element in &mut alignment.elements {
+    for element in &mut road.elements {
         if element.length < LONGEST_LENGTH {
             element.length += 1;
             break;
         }
     }
-    for tangent in &mut alignment.tangents {
+    for tangent in &mut road.tangents {
         if tangent.length < LONGEST_LENGTH {
             tangent.length += 1;
             break;
         }
     }
-    refused(&alignment, 5)
+    refused(&road, 5)
 }
 
 /// The plan length is passed, or just reached, before the last element.
 pub fn plan_length_early(random: &mut Random, outside: bool) -> Made {
-    let (mut alignment, _) = road_with(random, longest_road, |road| {
+    let (mut road, _) = road_with(random, longest_road, |road| {
         let full = road.total_length() == LONGEST_PLAN;
         full.then_some(()).into_iter().collect()
     });
     if !outside {
-        return accepted(&alignment);
+        return accepted(&road);
     }
-    let count = alignment.elements.len();
-    let last = alignment.elements[count - 1].length;
+    let count = road.elements.len();
+    let last = road.elements[count - 1].length;
     let place = random.place(count - 1);
-    let element = &mut alignment.elements[place];
+    let element = &mut road.elements[place];
     element.length = (element.length + last + 1).min(LONGEST_LENGTH);
-    if alignment.total_length() <= LONGEST_PLAN {
+    if road.total_length() <= LONGEST_PLAN {
         return plan_length(random, outside);
     }
-    refused(&alignment, 5)
+    refused(&road, 5)
 }
 
 pub fn tangents_sum(random: &mut Random, outside: bool) -> Made {
-    let mut alignment = alignment(random);
+    let mut road = random_road(random);
     if outside {
-        let place = random.place(alignment.tangents.len());
-        let length = &mut alignment.tangents[place].length;
+        let place = random.place(road.tangents.len());
+        let length = &mut road.tangents[place].length;
         let shorter = *length > 1 && random.chance(50) || *length == LONGEST_LENGTH;
         *length += if shorter { -1 } else { 1 };
     }
-    accepted_or(outside, &alignment, 6)
+    accepted_or(outside, &road, 6)
 }
 
 pub fn wrong_kind(random: &mut Random, outside: bool) -> Made {
-    let mut alignment = alignment(random);
+    let mut road = random_road(random);
     if outside {
-        wrong_kinds(random, &mut alignment.elements);
+        wrong_kinds(random, &mut road.elements);
     }
-    accepted_or(outside, &alignment, 7)
+    accepted_or(outside, &road, 7)
 }
 
 /// Changes the kind of an element so that the kinds do not run as refusal 7 wants them.
@@ -108,12 +109,12 @@ pub fn change_kind(random: &mut Random, element: &mut Element) {
 pub fn stops_short(random: &mut Random, outside: bool) -> Made {
     let head = Head::random(random);
     let size = Size::with_bends(random, 1, 49);
-    let mut alignment = alignment_of(random, head, &size);
-    let kept = alignment.elements.len() - random.between(1, 3) as usize;
-    if outside && !cut_off(&mut alignment.elements, kept) {
+    let mut road = road_of_size(random, head, &size);
+    let kept = road.elements.len() - random.between(1, 3) as usize;
+    if outside && !cut_off(&mut road.elements, kept) {
         return stops_short(random, outside);
     }
-    accepted_or_at(outside, &alignment, 7, kept)
+    accepted_or_at(outside, &road, 7, kept)
 }
 
 /// Leaves out the last elements and gives their length to others; whether there was room for it.
@@ -138,23 +139,23 @@ pub fn most_elements(random: &mut Random, outside: bool) -> Made {
     let leads = leads_of_count(random, 200 - more);
     let bends = bends_of_leads(random, &limits, &leads);
     let elements = plan_of(random, &limits, &size, &bends);
-    let mut alignment = upon_plan(random, head, elements, &size);
+    let mut road = upon_plan(random, head, elements, &size);
     if outside {
-        let shortened = alignment.elements.last_mut().expect("an element");
+        let shortened = road.elements.last_mut().expect("an element");
         if shortened.length <= more as i128 {
             return most_elements(random, outside);
         }
         shortened.length -= more as i128;
         let kinds = [Kind::Clothoid, Kind::Arc, Kind::Clothoid];
         for kind in kinds.into_iter().take(more) {
-            alignment.elements.push(Element {
+            road.elements.push(Element {
                 kind,
                 length: 1,
                 radius: 10_000,
             });
         }
     }
-    accepted_or_at(outside, &alignment, 7, 200)
+    accepted_or_at(outside, &road, 7, 200)
 }
 
 /// What leads to the arcs of a plan of so many elements.
@@ -188,8 +189,8 @@ pub fn changed_plan(
     loop {
         let mut elements = plan(random, &limits, &size);
         if let Some(place) = change(random, &limits, &mut elements, beyond) {
-            let alignment = upon_plan(random, head, elements, &size);
-            return accepted_or_at(outside, &alignment, number, place);
+            let road = upon_plan(random, head, elements, &size);
+            return accepted_or_at(outside, &road, number, place);
         }
     }
 }
@@ -229,8 +230,8 @@ pub fn straight_min(random: &mut Random, outside: bool) -> Made {
     let place = 4 * (1 + random.place(size.bends - 1));
     let beyond = if outside { 1 } else { 0 };
     elements[place].length = limits.straight_min.expect("a row with it") - beyond;
-    let alignment = upon_plan(random, head, elements, &size);
-    accepted_or(outside, &alignment, 9)
+    let road = upon_plan(random, head, elements, &size);
+    accepted_or(outside, &road, 9)
 }
 
 /// A straight too short for one turn is long enough between opposite turns and at the ends.
@@ -243,8 +244,8 @@ pub fn turns(random: &mut Random, outside: bool) -> Made {
     let mut elements = plan_of_radii(random, &limits, &size, &[radius, other]);
     let straight_min = limits.straight_min.expect("a row with it");
     elements[4].length = random.between(1, straight_min - 1);
-    let alignment = upon_plan(random, head, elements, &size);
-    accepted_or(outside, &alignment, 9)
+    let road = upon_plan(random, head, elements, &size);
+    accepted_or(outside, &road, 9)
 }
 
 pub fn radius_min(random: &mut Random, outside: bool) -> Made {
@@ -347,6 +348,6 @@ pub fn clothoid_square(random: &mut Random, outside: bool) -> Made {
     let radius = random.sign() * (product / length);
     let mut elements = plan_of_radii(random, &limits, &size, &[radius]);
     elements[random.pick(&[1, 3])].length = length;
-    let alignment = upon_plan(random, head, elements, &size);
-    accepted_or(outside, &alignment, 12)
+    let road = upon_plan(random, head, elements, &size);
+    accepted_or(outside, &road, 12)
 }

@@ -3,25 +3,24 @@
 use super::{accepted_or, road_with, Made};
 use crate::generate::random::Random;
 use crate::generate::valid::profile::least_half_length;
-use crate::generate::valid::{alignment, LONGEST_LENGTH};
-use reference::limits::limits;
+use crate::generate::valid::{random_road, LONGEST_LENGTH};
 
 pub fn grade_max(random: &mut Random, outside: bool) -> Made {
-    let (mut alignment, place) = road_with(random, alignment, |road| {
-        let most = limits(road).grade_max;
+    let (mut road, place) = road_with(random, random_road, |road| {
+        let most = road.limits().grade_max;
         (0..road.tangents.len())
             .filter(|&place| road.tangents[place].grade.abs() == most)
             .collect()
     });
     if outside {
-        let grade = &mut alignment.tangents[place].grade;
+        let grade = &mut road.tangents[place].grade;
         *grade += grade.signum();
     }
-    accepted_or(outside, &alignment, 13)
+    accepted_or(outside, &road, 13)
 }
 
 pub fn tangent_and_halves(random: &mut Random, outside: bool) -> Made {
-    let (mut alignment, place) = road_with(random, alignment, |road| {
+    let (mut road, place) = road_with(random, random_road, |road| {
         let tangents = &road.tangents;
         (0..tangents.len())
             .filter(|&place| {
@@ -32,14 +31,14 @@ pub fn tangent_and_halves(random: &mut Random, outside: bool) -> Made {
             .collect()
     });
     if outside {
-        let other = (place + 1) % alignment.tangents.len();
-        if alignment.tangents[other].length == LONGEST_LENGTH {
+        let other = (place + 1) % road.tangents.len();
+        if road.tangents[other].length == LONGEST_LENGTH {
             return tangent_and_halves(random, outside);
         }
-        alignment.tangents[place].length -= 1;
-        alignment.tangents[other].length += 1;
+        road.tangents[place].length -= 1;
+        road.tangents[other].length += 1;
     }
-    accepted_or(outside, &alignment, 14)
+    accepted_or(outside, &road, 14)
 }
 
 pub fn sag(random: &mut Random, outside: bool) -> Made {
@@ -52,8 +51,8 @@ pub fn crest(random: &mut Random, outside: bool) -> Made {
 
 /// A half length at its least, or 1 below.
 fn vertical_curve(random: &mut Random, outside: bool, sag: bool) -> Made {
-    let (mut alignment, vertex) = road_with(random, alignment, |road| {
-        let limits = limits(road);
+    let (mut road, vertex) = road_with(random, random_road, |road| {
+        let limits = road.limits();
         (0..road.tangents.len() - 1)
             .filter(|&vertex| {
                 let change = road.tangents[vertex + 1].grade - road.tangents[vertex].grade;
@@ -63,26 +62,26 @@ fn vertical_curve(random: &mut Random, outside: bool, sag: bool) -> Made {
             .collect()
     });
     if outside {
-        alignment.tangents[vertex].half_length -= 1;
+        road.tangents[vertex].half_length -= 1;
     }
-    accepted_or(outside, &alignment, 15)
+    accepted_or(outside, &road, 15)
 }
 
 /// "h = 0" passes exactly where both grades are equal.
 pub fn no_vertical_curve(random: &mut Random, outside: bool) -> Made {
-    let (mut alignment, vertex) = road_with(random, alignment, |road| {
+    let (mut road, vertex) = road_with(random, random_road, |road| {
         (0..road.tangents.len() - 1)
             .filter(|&vertex| road.tangents[vertex].half_length == 0)
             .collect()
     });
     if outside {
-        let most = limits(&alignment).grade_max;
-        let grade = &mut alignment.tangents[vertex + 1].grade;
+        let most = road.limits().grade_max;
+        let grade = &mut road.tangents[vertex + 1].grade;
         *grade += if *grade == most || (*grade > -most && random.chance(50)) {
             -1
         } else {
             1
         };
     }
-    accepted_or(outside, &alignment, 15)
+    accepted_or(outside, &road, 15)
 }

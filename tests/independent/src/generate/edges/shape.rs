@@ -1,12 +1,12 @@
 //! Refusals 1 to 4: the file's length, the shape of its numbers, their ranges; `date` has what the date adds.
 
-use super::{road_with, Expected, Made};
+use super::{accepted, made, road_with, Expected, Made};
 use crate::generate::head::Head;
 use crate::generate::numbers::{
     bytes_of, file, first_byte, number_bytes, numbers, written_signed, Field, Number,
 };
 use crate::generate::random::Random;
-use crate::generate::valid::{alignment, alignment_of, Size};
+use crate::generate::valid::{random_road, road_of_size, Size};
 
 /// A bound of a field's range, and by how much to go beyond it.
 #[derive(Clone, Copy)]
@@ -17,8 +17,9 @@ pub struct Bound {
 }
 
 pub fn longest_file(random: &mut Random, outside: bool) -> Made {
+    let road = random_road(random);
     let mut bytes = if random.chance(50) {
-        file(&alignment(random))
+        file(&road)
     } else {
         Vec::new()
     };
@@ -35,15 +36,16 @@ pub fn longest_file(random: &mut Random, outside: bool) -> Made {
         },
         (false, read) => Expected::RefusedAt(4, read),
     };
-    (bytes, expected)
+    made(&road, bytes, expected)
 }
 
 pub fn breaks_off(random: &mut Random, outside: bool) -> Made {
-    let numbers = numbers(&alignment(random));
-    let mut bytes = bytes_of(&numbers);
+    let road = random_road(random);
     if !outside {
-        return (bytes, Expected::Accepted);
+        return accepted(&road);
     }
+    let numbers = numbers(&road);
+    let mut bytes = bytes_of(&numbers);
     let cut = random.place(bytes.len());
     bytes.truncate(cut);
     let begun = (0..numbers.len())
@@ -51,7 +53,7 @@ pub fn breaks_off(random: &mut Random, outside: bool) -> Made {
         .take_while(|&first| first <= cut)
         .last()
         .unwrap_or(0);
-    (bytes, Expected::RefusedAt(2, begun))
+    made(&road, bytes, Expected::RefusedAt(2, begun))
 }
 
 /// The bytes of a file with one number replaced by bytes of another shape.
@@ -63,10 +65,11 @@ fn with_number(numbers: &[Number], place: usize, replacement: &[u8]) -> Vec<u8> 
 }
 
 pub fn shortest_form(random: &mut Random, outside: bool) -> Made {
-    let numbers = numbers(&alignment(random));
+    let road = random_road(random);
     if !outside {
-        return (bytes_of(&numbers), Expected::Accepted);
+        return accepted(&road);
     }
+    let numbers = numbers(&road);
     let place = random.place(numbers.len());
     let mut replacement = number_bytes(numbers[place].written);
     let more = random.between_by_size(1, 8);
@@ -74,10 +77,8 @@ pub fn shortest_form(random: &mut Random, outside: bool) -> Made {
         *replacement.last_mut().expect("a byte") |= 0x80;
         replacement.push(0);
     }
-    (
-        with_number(&numbers, place, &replacement),
-        Expected::RefusedAt(2, first_byte(&numbers, place)),
-    )
+    let expected = Expected::RefusedAt(2, first_byte(&numbers, place));
+    made(&road, with_number(&numbers, place, &replacement), expected)
 }
 
 /// A date's value is refused with 22, any other with 3.
@@ -90,7 +91,8 @@ fn refusal_of_value(field: Field) -> i128 {
 }
 
 pub fn greatest_number(random: &mut Random, outside: bool) -> Made {
-    let numbers = numbers(&alignment(random));
+    let road = random_road(random);
+    let numbers = numbers(&road);
     let place = random.place(numbers.len());
     let greatest = 4_294_967_295;
     let value = if outside { greatest + 1 } else { greatest };
@@ -99,14 +101,14 @@ pub fn greatest_number(random: &mut Random, outside: bool) -> Made {
     } else {
         refusal_of_value(numbers[place].field)
     };
-    (
-        with_number(&numbers, place, &number_bytes(value)),
-        Expected::RefusedAt(number, first_byte(&numbers, place)),
-    )
+    let bytes = with_number(&numbers, place, &number_bytes(value));
+    let expected = Expected::RefusedAt(number, first_byte(&numbers, place));
+    made(&road, bytes, expected)
 }
 
 pub fn five_bytes(random: &mut Random, outside: bool) -> Made {
-    let numbers = numbers(&alignment(random));
+    let road = random_road(random);
+    let numbers = numbers(&road);
     let place = random.place(numbers.len());
     let (value, number) = if outside {
         (1_u64 << random.between(35, 63), 2)
@@ -114,21 +116,21 @@ pub fn five_bytes(random: &mut Random, outside: bool) -> Made {
         let value = random.between(1 << 28, 4_294_967_295);
         (value as u64, refusal_of_value(numbers[place].field))
     };
-    (
-        with_number(&numbers, place, &number_bytes(value)),
-        Expected::RefusedAt(number, first_byte(&numbers, place)),
-    )
+    let bytes = with_number(&numbers, place, &number_bytes(value));
+    let expected = Expected::RefusedAt(number, first_byte(&numbers, place));
+    made(&road, bytes, expected)
 }
 
 pub fn top_bit_at_end(random: &mut Random, outside: bool) -> Made {
-    let numbers = numbers(&alignment(random));
-    let mut bytes = bytes_of(&numbers);
+    let road = random_road(random);
     if !outside {
-        return (bytes, Expected::Accepted);
+        return accepted(&road);
     }
+    let numbers = numbers(&road);
+    let mut bytes = bytes_of(&numbers);
     *bytes.last_mut().expect("a byte") |= 0x80;
     let first = first_byte(&numbers, numbers.len() - 1);
-    (bytes, Expected::RefusedAt(2, first))
+    made(&road, bytes, Expected::RefusedAt(2, first))
 }
 
 /// A number at a bound of its range, or beyond it.
@@ -139,18 +141,18 @@ pub fn at_bound(random: &mut Random, outside: bool, bound: Bound) -> Made {
     } else {
         bound.value
     };
-    let road = |random: &mut Random| {
+    let with_bends = |random: &mut Random| {
         let head = Head::random(random);
         let size = Size::with_bends(random, 1, 4);
-        alignment_of(random, head, &size)
+        road_of_size(random, head, &size)
     };
-    let (alignment, place) = road_with(random, road, |alignment| {
-        let numbers = numbers(alignment);
+    let (road, place) = road_with(random, with_bends, |road| {
+        let numbers = numbers(road);
         (0..numbers.len())
             .filter(|&place| numbers[place].field == field)
             .collect()
     });
-    let mut numbers = numbers(&alignment);
+    let mut numbers = numbers(&road);
     numbers[place].written = if field.is_signed() {
         written_signed(value)
     } else {
@@ -162,17 +164,18 @@ pub fn at_bound(random: &mut Random, outside: bool, bound: Bound) -> Made {
     } else {
         Expected::NotOutsideRangeAt(first)
     };
-    (bytes_of(&numbers), expected)
+    made(&road, bytes_of(&numbers), expected)
 }
 
 pub fn bytes_follow(random: &mut Random, outside: bool) -> Made {
-    let mut bytes = file(&alignment(random));
+    let road = random_road(random);
     if !outside {
-        return (bytes, Expected::Accepted);
+        return accepted(&road);
     }
+    let mut bytes = file(&road);
     let end = bytes.len();
     let count = random.between_by_size(1, 8_192 - end as i128) as usize;
     let more = random.bytes(count);
     bytes.extend(more);
-    (bytes, Expected::RefusedAt(4, end))
+    made(&road, bytes, Expected::RefusedAt(4, end))
 }

@@ -29,7 +29,7 @@ pub fn other_book(book: RuleBook) -> RuleBook {
 /// A plan with some radii and clothoids at the other rule book's least or 1 beside it, where its own allows them.
 pub fn near_other_book(random: &mut Random, head: Head, plan: &[Element]) -> Vec<Element> {
     let own = head.limits();
-    let other = limits_under(other_book(rule_book(head.contract)), head.speed());
+    let other = limits_under(other_book(rule_book(head.contract)), head.speed);
     let mut elements = plan.to_vec();
     for arc in arcs_without_egg(plan) {
         let radius = &mut elements[arc].radius;

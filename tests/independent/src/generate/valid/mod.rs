@@ -5,14 +5,17 @@ pub mod books;
 pub mod crossfall;
 pub mod plan;
 pub mod profile;
+pub mod speeds;
 
 use super::head::Head;
 use super::random::Random;
+use super::road::Road;
 use books::near_other_book;
 use crossfall::crossfalls;
 use plan::{plan, stretch, total};
 use profile::profile;
 use reference::file::{Alignment, Element};
+use reference::limits::Limits;
 
 pub const LONGEST_PLAN: i128 = 100_000_000;
 pub const LONGEST_LENGTH: i128 = 10_000_000;
@@ -105,36 +108,61 @@ pub fn random_start_height(random: &mut Random) -> i128 {
 }
 
 /// Builds profile and crossfalls upon a plan.
-pub fn upon_plan(
+pub fn upon_plan(random: &mut Random, head: Head, elements: Vec<Element>, size: &Size) -> Road {
+    let limits = head.limits();
+    let rows = Rows {
+        profile: &limits,
+        crossfalls: &limits,
+    };
+    upon_plan_by(random, head, elements, size, rows)
+}
+
+/// The rows that decide what is built upon a plan.
+pub struct Rows<'l> {
+    pub profile: &'l Limits,
+    pub crossfalls: &'l Limits,
+}
+
+/// Builds profile and crossfalls upon a plan, each by a row of its own.
+pub fn upon_plan_by(
     random: &mut Random,
     head: Head,
     elements: Vec<Element>,
     size: &Size,
-) -> Alignment {
-    let limits = head.limits();
+    rows: Rows,
+) -> Road {
     let end = total(&elements);
-    let (ramp_limit, points) = crossfalls(random, &limits, &elements, size.points);
-    Alignment {
+    let (ramp_limit, points) = crossfalls(random, rows.crossfalls, &elements, size.points);
+    let alignment = Alignment {
         contract: head.contract,
         class: head.class,
         terrain: head.terrain,
         step: random_step(random, end),
         ramp_limit,
-        tangents: profile(random, &limits, end, size.tangents),
+        tangents: profile(random, rows.profile, end, size.tangents),
         elements,
         start_height: random_start_height(random),
         points,
+    };
+    Road {
+        alignment,
+        speed: head.speed,
     }
 }
 
-/// A road that keeps every rule.
-pub fn alignment(random: &mut Random) -> Alignment {
-    let size = Size::random(random);
+/// A road that keeps every rule at the speed that it is designed for.
+pub fn random_road(random: &mut Random) -> Road {
     let head = Head::random(random);
-    alignment_of(random, head, &size)
+    road_of(random, head)
 }
 
-pub fn alignment_of(random: &mut Random, head: Head, size: &Size) -> Alignment {
+/// A road of any size that keeps every rule.
+pub fn road_of(random: &mut Random, head: Head) -> Road {
+    let size = Size::random(random);
+    road_of_size(random, head, &size)
+}
+
+pub fn road_of_size(random: &mut Random, head: Head, size: &Size) -> Road {
     let limits = head.limits();
     let mut elements = plan(random, &limits, size);
     if random.chance(20) {
