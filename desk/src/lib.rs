@@ -9,6 +9,7 @@ pub mod call;
 pub mod commands;
 pub mod compare;
 pub mod fault;
+pub mod files;
 pub mod folder;
 pub mod help;
 pub mod language;

@@ -11,7 +11,7 @@ use crate::fault::{End, Fault};
 use crate::language::Language;
 use crate::names::{plain, shown, DASH};
 use crate::words::{common, help};
-use crate::{reading, refusals, rows, writing};
+use crate::{files, reading, refusals, rows, writing};
 
 pub const COMMAND: Command = Command {
     name: "list",
@@ -26,9 +26,7 @@ pub const COMMAND: Command = Command {
 
 fn run(call: &Call) -> Result<End, Fault> {
     let language = call.language;
-    if call.words.iter().filter(|name| *name == DASH).count() > 1 {
-        return Err(Fault::Use(language.say(common::INPUT_TWICE, &[])));
-    }
+    files::read_input_once(call)?;
     let Some(folder) = call.target() else {
         return each(call, |_, bytes| writing::answer(bytes, language));
     };

@@ -2,6 +2,8 @@
 
 use std::ffi::OsStr;
 
+use reference::file::Refusal;
+
 use crate::language::Language;
 use crate::names::shown;
 use crate::words::{common, rules, Phrase};
@@ -23,6 +25,26 @@ pub fn rule_name(number: u32) -> Option<Phrase> {
     let name = format!("RULE_{number}");
     let found = rules::ALL.iter().find(|(known, _)| *known == name);
     found.map(|(_, phrase)| *phrase)
+}
+
+/// The rule, and the item that breaks it.
+pub fn title(broken: Refusal, language: Language) -> String {
+    let number = broken.number as u32;
+    let rule = rule_name(number).map_or(String::new(), |rule| language.say(rule, &[]));
+    match counted(number) {
+        None => rule,
+        Some(item) => {
+            let item = language.say(item, &[]);
+            language.say(common::RULE_AND_ITEM, &[&rule, &item, &broken.place])
+        }
+    }
+}
+
+/// The same after the line that would refuse the file for it.
+pub fn heading(broken: Refusal, language: Language) -> String {
+    let title = title(broken, language);
+    let values: [&dyn std::fmt::Display; 3] = [&broken.number, &broken.place, &title];
+    language.say(common::HEADING, &values)
 }
 
 /// One line about a refused file.

@@ -8,7 +8,7 @@ use super::teller::Teller;
 use super::{cross_section, lines, moves, plan, profile, unread};
 use crate::agreement::Refused;
 use crate::language::Language;
-use crate::refusals;
+use crate::refusals::title;
 use crate::words::why as words;
 
 /// A broken rule at an item.
@@ -78,19 +78,6 @@ fn finding(
         title: title(broken, language),
         facts,
         changes,
-    }
-}
-
-/// The rule, and the item that breaks it.
-fn title(broken: Refusal, language: Language) -> String {
-    let number = broken.number as u32;
-    let rule = refusals::rule_name(number).map_or(String::new(), |rule| language.say(rule, &[]));
-    match refusals::counted(number) {
-        None => rule,
-        Some(item) => {
-            let item = language.say(item, &[]);
-            language.say(words::TITLE, &[&rule, &item, &broken.place])
-        }
     }
 }
 

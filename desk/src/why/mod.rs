@@ -28,7 +28,8 @@ use crate::agreement::{agreed, Agreed};
 use crate::call::{flag, Call};
 use crate::commands::Command;
 use crate::fault::{End, Fault};
-use crate::names::{shown, DASH};
+use crate::files::{self, Said};
+use crate::names::shown;
 use crate::words::{common, why as words};
 use crate::{reading, writing};
 
@@ -50,47 +51,16 @@ fn run(call: &Call) -> Result<End, Fault> {
         let words = language.say(common::WRONG_WORDS, &[&COMMAND.name, &right]);
         return Err(Fault::Use(words));
     }
-    if call.words.iter().filter(|name| *name == DASH).count() > 1 {
-        return Err(Fault::Use(language.say(common::INPUT_TWICE, &[])));
-    }
+    files::read_input_once(call)?;
     if call.has("--limits") {
         writing::answer(limits::tables(language).as_bytes(), language)?;
         return Ok(End::Answered);
     }
-    match call.words.as_slice() {
-        [name] => {
-            let (text, end) = one(call, name)?;
-            writing::answer(text.as_bytes(), language)?;
-            Ok(end)
-        }
-        _ => several(call),
-    }
-}
-
-/// Each file under its name; one that cannot be read is named, and the others are done.
-fn several(call: &Call) -> Result<End, Fault> {
-    let mut end = End::Answered;
-    let mut gap = "";
-    for name in &call.words {
-        match one(call, name) {
-            Ok((text, ended)) => {
-                let text = format!("{gap}{}\n{text}", shown(name, call.language));
-                writing::answer(text.as_bytes(), call.language)?;
-                gap = "\n";
-                end = end.max(ended);
-            }
-            Err(Fault::Failed(words)) => {
-                writing::say(&words, call.language);
-                end = End::Failed;
-            }
-            Err(fault) => return Err(fault),
-        }
-    }
-    Ok(end)
+    files::each_under_its_name(call, |name| one(call, name))
 }
 
 /// What is said of a file.
-fn one(call: &Call, name: &OsStr) -> Result<(String, End), Fault> {
+fn one(call: &Call, name: &OsStr) -> Result<Said, Fault> {
     let language = call.language;
     let file = reading::alignment(name, language)?;
     let agreed = agreed(&file, language).map_err(|words| {

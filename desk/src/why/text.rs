@@ -7,7 +7,7 @@ use super::together::{together, Together};
 use crate::agreement::{Listed, Refused};
 use crate::language::Language;
 use crate::rule_book::book_and_day;
-use crate::words::why as words;
+use crate::words::{common, why as words};
 
 /// One line about a road that keeps every rule.
 pub fn kept(listed: &Listed, language: Language) -> String {
@@ -39,7 +39,7 @@ pub fn ending(refused: &Refused, findings: &[Finding], language: Language) -> St
 /// The rule and the item, after the line that would refuse the file for it.
 pub fn heading(found: &Finding, language: Language) -> String {
     let values: [&dyn std::fmt::Display; 3] = [&found.number, &found.place, &found.title];
-    language.say(words::HEADING, &values)
+    language.say(common::HEADING, &values)
 }
 
 fn not_asked(refused: &Refused, language: Language) -> String {

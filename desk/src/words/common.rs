@@ -12,6 +12,8 @@ crate::phrases! {
     NO_FOLDER: "it is no folder", "то није фасцикла";
     REFUSED: "{0}: refused with {1} at {3} {4}: {2}; `voardusk why` says more", "{0}: одбијање {1}, {3} {4}: {2}; `voardusk why` каже више";
     REFUSED_NO_PLACE: "{0}: refused with {1}: {2}; `voardusk why` says more", "{0}: одбијање {1}: {2}; `voardusk why` каже више";
+    HEADING: "R {0} {1}: {2}", "R {0} {1}: {2}";
+    RULE_AND_ITEM: "{0}: {1} {2}", "{0}: {1} {2}";
     STATION_REFUSED: "{0}: refused with 21: station {1} is beyond the road's end", "{0}: одбијање 21: стационажа {1} је иза краја пута";
     BYTE: "byte", "бајт";
     ELEMENT: "element", "елемент";
