@@ -54,12 +54,8 @@ pub fn judged(file: &[u8], language: Language) -> Result<Option<proved::Refusal>
 }
 
 fn refused(file: &[u8], refusal: proved::Refusal, language: Language) -> Result<Refused, String> {
-    let own = Refusal {
-        number: refusal.number().into(),
-        place: refusal.place().into(),
-    };
     let second = machine::accept(file).err();
-    if second != Some(own) {
+    if second != Some(as_read(refusal)) {
         let second = second.map_or(language.say(common::LISTED, &[]), line);
         return Err(language.say(common::DIFFERENT_REFUSALS, &[&refusal, &second]));
     }
@@ -91,6 +87,15 @@ fn listed(file: &[u8], list: Vec<u8>, language: Language) -> Result<Listed, Stri
     })
 }
 
-fn line(refusal: Refusal) -> String {
+/// The library's refusal as the second reading has it.
+pub fn as_read(refusal: proved::Refusal) -> Refusal {
+    Refusal {
+        number: refusal.number().into(),
+        place: refusal.place().into(),
+    }
+}
+
+/// The line that the listing program prints.
+pub fn line(refusal: Refusal) -> String {
     format!("R {} {}", refusal.number, refusal.place)
 }

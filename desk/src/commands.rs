@@ -7,7 +7,9 @@ use crate::fault::{status, End, Fault};
 use crate::language::Language;
 use crate::names::plain;
 use crate::words::{common, Phrase};
-use crate::{compare, folder, help, list, make, manual, next, report, row, show, why, writing};
+use crate::{
+    compare, folder, help, list, make, manual, marks, next, report, row, show, why, writing,
+};
 
 /// A command: how it is called, what it does, and the function that does it.
 pub struct Command {
@@ -31,6 +33,7 @@ pub const COMMANDS: &[Command] = &[
     show::COMMAND,
     make::COMMAND,
     why::COMMAND,
+    marks::COMMAND,
     report::COMMAND,
     compare::COMMAND,
     folder::COMMAND,

@@ -16,6 +16,7 @@ pub mod language;
 pub mod list;
 pub mod make;
 pub mod manual;
+pub mod marks;
 pub mod names;
 pub mod next;
 pub mod quantity;

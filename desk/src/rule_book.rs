@@ -32,6 +32,12 @@ pub fn terrain_name(terrain: i128) -> Phrase {
     }
 }
 
+/// `access road, mountain terrain`
+pub fn class_and_terrain(class: i128, terrain: i128, language: Language) -> String {
+    let names = [class_name(class), terrain_name(terrain)];
+    names.map(|name| language.say(name, &[])).join(", ")
+}
+
 pub fn book_name(book: RuleBook) -> Phrase {
     match book {
         RuleBook::Today => words::TODAY,
@@ -83,6 +89,19 @@ pub fn metres(value: i128, language: Language) -> String {
     format!("{} m", language.number(value / 1_000))
 }
 
+/// The same where there may be none.
+pub fn metres_or_none(value: Option<i128>, language: Language) -> String {
+    match value {
+        None => language.say(words::NO_LIMIT, &[]),
+        Some(value) => metres(value, language),
+    }
+}
+
+/// A lane width, with two decimals in metres.
+pub fn lane(value: i128, language: Language) -> String {
+    format!("{} m", language.decimals(value / 10, 2))
+}
+
 /// A limit with one decimal in percent.
 pub fn percent(value: i128, language: Language) -> String {
     format!("{} %", language.decimals(value / 1_000, 1))
@@ -100,10 +119,7 @@ pub fn ramp_limit(class: i128, terrain: i128) -> i128 {
 /// Speed, lane width and every limit, in the paper's order.
 pub fn lines(class: i128, terrain: i128, contract: Contract, language: Language) -> Vec<Line> {
     let row = limits_at(speed(class, terrain), contract);
-    let metres = |value: Option<i128>| match value {
-        None => language.say(words::NO_LIMIT, &[]),
-        Some(value) => metres(value, language),
-    };
+    let metres = |value| metres_or_none(value, language);
     let percent = |value: i128| percent(value, language);
     let crossfalls = [percent(25_000), percent(70_000)];
     let (clothoid_name, clothoid) = clothoid_limit(row.clothoid);
@@ -118,10 +134,7 @@ pub fn lines(class: i128, terrain: i128, contract: Contract, language: Language)
         (words::GRADE_MAX, percent(row.grade_max)),
         (words::SAG_RADIUS, metres(Some(row.sag_radius))),
         (words::CREST_RADIUS, metres(Some(row.crest_radius))),
-        (
-            words::LANE,
-            format!("{} m", language.decimals(row.lane_width / 10, 2)),
-        ),
+        (words::LANE, lane(row.lane_width, language)),
         (
             words::CROSSFALL,
             language.say(words::FROM_TO, &[&crossfalls[0], &crossfalls[1]]),

@@ -4,7 +4,7 @@ use reference::file::Contract;
 
 use crate::language::Language;
 use crate::refusals::counted;
-use crate::rule_book::{book_line, class_name, lines, terrain_name};
+use crate::rule_book::{book_line, class_and_terrain, lines};
 use crate::show::line::comments as put;
 use crate::show::mark::rule;
 use crate::text::file::{Item, Numbers};
@@ -48,13 +48,12 @@ fn refused(refusal: proved::Refusal, language: Language) -> String {
 /// What contract date, class and terrain decide, once they are read and in their ranges.
 fn limits(numbers: &Numbers, language: Language) -> Vec<String> {
     let class = numbers.single(Part::Class);
-    let class_and_terrain = class.zip(numbers.single(Part::Terrain));
-    let Some(((class, terrain), contract)) = class_and_terrain.zip(contract(numbers)) else {
+    let both = class.zip(numbers.single(Part::Terrain));
+    let Some(((class, terrain), contract)) = both.zip(contract(numbers)) else {
         return Vec::new();
     };
     let (class, terrain) = (class.into(), terrain.into());
-    let names = [class_name(class), terrain_name(terrain)].map(|name| language.say(name, &[]));
-    let mut out = vec![names.join(", ")];
+    let mut out = vec![class_and_terrain(class, terrain, language)];
     let book = book_line(contract, language);
     let lines = lines(class, terrain, contract, language);
     let lines = [book].into_iter().chain(lines);

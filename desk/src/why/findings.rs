@@ -6,7 +6,7 @@ use reference::rules::Judgement;
 use super::mending::{mended, Mending, Obstacle};
 use super::teller::Teller;
 use super::{cross_section, lines, moves, plan, profile, unread};
-use crate::agreement::Refused;
+use crate::agreement::{as_read, Refused};
 use crate::language::Language;
 use crate::refusals::title;
 use crate::words::why as words;
@@ -36,10 +36,7 @@ pub fn findings(refused: &Refused, language: Language) -> Vec<Finding> {
 }
 
 fn unread(refused: &Refused, language: Language) -> Finding {
-    let refusal = Refusal {
-        number: refused.refusal.number().into(),
-        place: refused.refusal.place().into(),
-    };
+    let refusal = as_read(refused.refusal);
     Finding {
         number: refusal.number,
         place: refusal.place,

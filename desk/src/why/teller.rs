@@ -7,7 +7,7 @@ use reference::limits::{limits, limits_at, rule_book, speed, Limits, RuleBook};
 use reference::road;
 
 use crate::language::Language;
-use crate::rule_book::{book_and_day, class_name, other_contract, terrain_name};
+use crate::rule_book::{book_and_day, class_and_terrain, other_contract};
 use crate::text::date;
 use crate::words::{why as words, Phrase};
 
@@ -91,11 +91,10 @@ impl Teller<'_> {
 
     fn limit_of_road(&self, name: Phrase, value: String, book: Option<String>) -> String {
         let name = self.say(name, &[]);
-        let class = self.say(class_name(self.road.class), &[]);
-        let terrain = self.say(terrain_name(self.road.terrain), &[]);
+        let road = class_and_terrain(self.road.class, self.road.terrain, self.language);
         let road = match book {
-            None => format!("{class}, {terrain}"),
-            Some(book) => format!("{class}, {terrain}; {book}"),
+            None => road,
+            Some(book) => format!("{road}; {book}"),
         };
         let values: [&dyn Display; 4] = [&name, &value, &self.speed(), &road];
         self.say(words::LIMIT_AT_SPEED, &values)

@@ -6,6 +6,7 @@ pub mod folder;
 pub mod help;
 pub mod limits;
 pub mod make;
+pub mod marks;
 pub mod months;
 pub mod report;
 pub mod rules;
@@ -41,6 +42,7 @@ pub const TABLES: &[&[(&str, Phrase)]] = &[
     help::ALL,
     limits::ALL,
     make::ALL,
+    marks::ALL,
     months::ALL,
     report::ALL,
     rules::ALL,
