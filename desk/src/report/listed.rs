@@ -4,16 +4,17 @@ use super::drawing::sheet::{self, Detail, Drawing, LEAST_ROW_DISTANCE};
 use super::page::Writer;
 use super::strips::{scales, strips, Strip};
 use super::view::View;
-use super::{blade_drawings, first, head, list};
+use super::{blade_drawings, first, head, list, speeds};
 use crate::agreement::Listed;
 use crate::language::Language;
+use crate::marks::verdicts::Marked;
 use crate::words::report as words;
 
 /// The room of the profile on a sheet of its own, and on one of several.
 const WHOLE_ROOM: f64 = 190.0;
 const STRIP_ROOM: f64 = 130.0;
 
-pub fn html(name: &str, listed: &Listed, language: Language) -> String {
+pub fn html(name: &str, listed: &Listed, marked: Option<&Marked>, language: Language) -> String {
     let view = View::of_listed(listed, language);
     let strips = strips(&view);
     let mut page = Writer::begin(name, language);
@@ -29,6 +30,7 @@ pub fn html(name: &str, listed: &Listed, language: Language) -> String {
         page.heading(words::PAIR_HEADING);
         page.html += &drawing.svg();
     }
+    speeds::write(&mut page, marked);
     list::write(&mut page, listed, &view);
     page.end()
 }

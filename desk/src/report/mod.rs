@@ -22,6 +22,7 @@ mod refused;
 mod sample;
 mod shown;
 mod side;
+mod speeds;
 mod step;
 mod strips;
 #[cfg(test)]
@@ -33,6 +34,7 @@ use crate::call::{flag, valued, Call};
 use crate::commands::Command;
 use crate::fault::{End, Fault};
 use crate::language::Language;
+use crate::marks::verdicts::{self, Marked};
 use crate::names;
 use crate::words::{common, report as words};
 use crate::{reading, refusals, writing};
@@ -56,13 +58,15 @@ pub struct Page {
 
 /// The page of a file, under the name that a person reads; words where the two readings differ.
 pub fn page(name: &str, file: &[u8], language: Language) -> Result<Page, String> {
+    let marked = marked(name, file, language)?;
+    let marked = marked.as_deref();
     let page = match agreement(name, file, language)? {
         Agreed::Listed(listed) => Page {
-            html: listed::html(name, &listed, language),
+            html: listed::html(name, &listed, marked, language),
             is_refused: false,
         },
         Agreed::Refused(refused) => Page {
-            html: refused::html(name, file, &refused, language),
+            html: refused::html(name, file, &refused, marked, language),
             is_refused: true,
         },
     };
@@ -70,7 +74,20 @@ pub fn page(name: &str, file: &[u8], language: Language) -> Result<Page, String>
 }
 
 fn agreement(name: &str, file: &[u8], language: Language) -> Result<Agreed, String> {
-    agreed(file, language).map_err(|why| language.say(common::DISAGREEMENT, &[&name, &why]))
+    agreed(file, language).map_err(|why| differ(name, why, language))
+}
+
+/// What the seven speeds say; none of a file that cannot be read.
+fn marked(name: &str, file: &[u8], language: Language) -> Result<Option<Box<Marked>>, String> {
+    let agreed = verdicts::agreed(file, language).map_err(|why| differ(name, why, language))?;
+    Ok(match agreed {
+        verdicts::Agreed::Marked(road) => Some(road),
+        verdicts::Agreed::Unread(_) => None,
+    })
+}
+
+fn differ(name: &str, why: String, language: Language) -> String {
+    language.say(common::DISAGREEMENT, &[&name, &why])
 }
 
 fn run(call: &Call) -> Result<End, Fault> {

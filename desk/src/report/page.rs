@@ -32,6 +32,11 @@ pre{font-family:'Liberation Mono','DejaVu Sans Mono',monospace;font-size:7.5pt;l
 .finding h3{font-size:11pt;margin:0 0 .2em}\
 .finding ul{margin:.2em 0;padding-left:1.4em}\
 .finding pre,.finding+pre,.bytes{font-size:9.5pt;margin:.2em 0}\
+.speeds{width:100%;break-inside:avoid}\
+.speeds th,.speeds td{text-align:left;vertical-align:top;padding:.1em 1.5em .1em 0;border-bottom:1px dotted #aaa}\
+.speeds th{width:1%;white-space:nowrap}\
+.own th,.own td{font-weight:bold;color:#111}\
+.speeds .fails{color:#b3261e}\
 .number{color:#b3261e;font-weight:bold}\
 .bad{background:#b3261e;color:#fff}\
 @media print{body{margin:0;padding:0;max-width:none;font-size:8.5pt;line-height:1.25}h1{font-size:14pt;margin:0 0 .4em}h2{font-size:11pt;margin:.8em 0 .3em}\

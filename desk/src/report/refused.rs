@@ -7,17 +7,25 @@ use super::head;
 use super::html::escaped;
 use super::marks::marks;
 use super::page::Writer;
+use super::speeds;
 use super::strips::{scales, strips};
 use super::view::View;
 use crate::agreement::Refused;
 use crate::language::Language;
+use crate::marks::verdicts::Marked;
 use crate::refusals;
 use crate::why::{ending, findings, heading, Finding};
 use crate::words::report as words;
 
 const ROOM: f64 = 130.0;
 
-pub fn html(name: &str, file: &[u8], refused: &Refused, language: Language) -> String {
+pub fn html(
+    name: &str,
+    file: &[u8],
+    refused: &Refused,
+    marked: Option<&Marked>,
+    language: Language,
+) -> String {
     let found = findings(refused, language);
     let mut page = Writer::begin(name, language);
     refusal(&mut page, refused);
@@ -33,6 +41,7 @@ pub fn html(name: &str, file: &[u8], refused: &Refused, language: Language) -> S
         let ending = escaped(&ending);
         page.html += &format!("<div class=\"finding\">\n<pre>{ending}</pre>\n</div>\n");
     }
+    speeds::write(&mut page, marked);
     match &refused.read {
         None => {
             page.heading(words::BYTES_HEADING);

@@ -15,6 +15,7 @@ const LONG: &[u8] = include_bytes!("../../../examples/long-access-road.alignment
 const DATED: &[u8] = include_bytes!("../../../examples/contract-of-2009.alignment");
 const EGG: &[u8] = include_bytes!("../../../examples/egg.alignment");
 const HAIRPIN: &[u8] = include_bytes!("../../../examples/hairpin.alignment");
+const LONG_STRAIGHT: &[u8] = include_bytes!("../../../examples/long-straight.alignment");
 const LANGUAGES: [Language; 2] = [Language::English, Language::Serbian];
 
 /// The text between two others.
@@ -284,6 +285,20 @@ fn a_file_that_cannot_be_read_shows_its_bytes() {
     let page = page("empty", &[], Language::English).expect("agreed");
     assert!(page.is_refused);
     assert!(page.html.contains("R 2 0") && page.html.contains("end of the file"));
+}
+
+#[test]
+fn the_speeds_at_which_a_road_would_pass() {
+    let html = |file| page("road", file, Language::English).expect("agreed").html;
+    let own = "<tr class=\"own\"><th>40 km/h, design speed</th><td>passes</td></tr>\n";
+    assert!(html(CREST).contains(own));
+    let refused = html(LONG_STRAIGHT);
+    let own = "<tr class=\"own\"><th>70 km/h, design speed</th>\
+               <td class=\"fails\">R 8 4: a straight is too long: element 4; straight max 1,400 m</td></tr>\n";
+    let next = "<tr><th>80 km/h</th><td>passes</td></tr>\n";
+    assert!(refused.contains(&(own.to_string() + next)), "{refused}");
+    let table = "<table class=\"speeds\">";
+    assert!(refused.contains(table) && !html(&CREST[..20]).contains(table));
 }
 
 #[test]

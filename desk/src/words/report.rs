@@ -101,6 +101,10 @@ crate::phrases! {
     ROW_EDGE: "edge", "ивица";
     ROW_REASONS: "listed as", "разлог";
 
+    SPEEDS_HEADING: "Speeds at which the road would pass", "Брзине при којима пут пролази";
+    SPEEDS_EXPLAINED: "The road is judged with the limits and the lane width of each speed in place of those of its design speed; its rule book stays. Where it does not pass, the first refusal stands.",
+        "Пут се испитује са границама и ширином возне траке сваке брзине уместо оних за његову рачунску брзину; правилник остаје исти. Где не пролази, стоји прво одбијање.";
+
     LIST_HEADING: "The list", "Списак";
     LIST_NUMBERS: "The numbers are those of the list, in mm, ppm (10,000 ppm are 1 %) and millionths per metre, rounded to the nearest whole number, an exact half away from zero. A row without a reason is listed as a multiple of the step alone.",
         "Бројеви су они из списка, у mm, ppm (10.000 ppm је 1 %) и милионитим деловима по метру, заокружени на најближи цео број, а тачна половина даље од нуле. Ред без разлога исписан је само као умножак корака.";
