@@ -17,8 +17,8 @@ table{border-collapse:collapse}\
 th{font-weight:normal;color:#444}\
 .facts{columns:3 15em;column-gap:2em}\
 .facts div{display:flex;justify-content:space-between;gap:1em;border-bottom:1px dotted #aaa;break-inside:avoid}\
-.facts b{font-weight:normal;color:#444}\
-.facts span{text-align:right;white-space:nowrap}\
+.facts b{font-weight:normal;color:#444;flex-shrink:1000}\
+.facts span{text-align:right}\
 .first{border:2px solid #111;padding:.5em .9em;margin:1em 0;break-inside:avoid}\
 .first p{font-size:11.5pt}\
 .list{font-family:'Liberation Mono','DejaVu Sans Mono',monospace;font-size:7.5pt;width:100%}\
