@@ -144,7 +144,7 @@ fn compare_all(options: &Options) -> Result<Summary, String> {
     Ok(summary)
 }
 
-/// Tells how many of the stored answers the reference gives.
+/// Tells how many of the stored answers agree.
 fn check_stored(path: &Path, check: fn(&Path) -> std::io::Result<vectors::Checked>) -> ExitCode {
     match check(path) {
         Err(error) => {

@@ -69,7 +69,8 @@ fn check_run(file: &[u8], run: &str) -> Result<(), String> {
     Ok(())
 }
 
-/// Checks lines of a file in hexadecimal, ` = ` and its marks as a number, or the refusal.
+/// Checks the library and the reference against lines of a file in hexadecimal, ` = ` and its marks as a number, or the
+/// refusal.
 pub fn check_marks(cases: &Path) -> std::io::Result<Checked> {
     let text = fs::read_to_string(cases)?;
     let mut differing = Vec::new();
@@ -86,14 +87,20 @@ fn check_marks_of(line: &str) -> Result<(), String> {
     let no_bytes = file == "-";
     let digits = if no_bytes { "" } else { file };
     let file = hexadecimal::read(digits).ok_or("a file that is not hexadecimal")?;
-    let ours = match marks::marks(&file) {
+    let library = match voardusk::marks(&file) {
+        Ok(marks) => marks.number().to_string(),
+        Err(refusal) => refusal.to_string(),
+    };
+    let reference = match marks::marks(&file) {
         Ok(marks) => marks.number().to_string(),
         Err(refusal) => text_of(refusal),
     };
-    if ours != theirs {
-        return Err(format!("expected {theirs}, the reference gives {ours}"));
+    match library == theirs && reference == theirs {
+        true => Ok(()),
+        false => Err(format!(
+            "expected {theirs}, the library gives {library}, the reference {reference}"
+        )),
     }
-    Ok(())
 }
 
 fn text_of(refusal: Refusal) -> String {
