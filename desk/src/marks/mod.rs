@@ -1,5 +1,6 @@
 //! `marks`: at which of the seven speeds a road would pass.
 
+mod by_class;
 mod csv;
 mod limit;
 pub mod text;

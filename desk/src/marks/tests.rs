@@ -1,10 +1,10 @@
 //! What `marks` prints, and what it does where the two readings differ.
 
-use reference::file::Refusal;
+use proved::SPEEDS;
 
+use super::by_class::judged_at;
 use super::verdicts::{agreed, hold_against, Agreed, Marked};
 use super::{csv, text};
-use crate::agreement::as_read;
 use crate::language::Language;
 use crate::make;
 
@@ -161,28 +161,22 @@ fn with_commas() {
         .all(|line| line.matches(',').count() == fields));
 }
 
-/// The library's marks of one road against the second reading of another.
+/// The library's answers for one road against the second reading of another.
 #[test]
 fn where_the_readings_differ() {
     let marks = |file| proved::marks(file).expect("marks");
-    let own = |file| proved::next_station(file, 0).err().map(as_read);
-    let held = |marks, own, road| hold_against(marks, own, road, Language::English);
+    let judged = |file| SPEEDS.map(|speed| judged_at(file, speed));
+    let held = |marks, judged, road| hold_against(marks, judged, road, Language::English);
     let (long, crest) = (marked(LONG_STRAIGHT), marked(CREST));
-    assert_eq!(
-        held(marks(LONG_STRAIGHT), own(LONG_STRAIGHT), &long),
-        Ok(())
-    );
-    assert_eq!(held(marks(CREST), own(CREST), &crest), Ok(()));
+    let same = held(marks(LONG_STRAIGHT), judged(LONG_STRAIGHT), &long);
+    assert_eq!(same, Ok(()));
+    assert_eq!(held(marks(CREST), judged(CREST), &crest), Ok(()));
     let mark = Err("at 80 km/h: does not pass and passes".to_string());
-    assert_eq!(held(marks(CREST), own(LONG_STRAIGHT), &long), mark);
+    assert_eq!(held(marks(CREST), judged(LONG_STRAIGHT), &long), mark);
     let mark = Err("at 80 km/h: passes and R 15 0".to_string());
-    assert_eq!(held(marks(LONG_STRAIGHT), own(CREST), &crest), mark);
-    let other = Some(Refusal {
-        number: 8,
-        place: 5,
-    });
-    let refusal = Err("at 70 km/h: R 8 5 and R 8 4".to_string());
-    assert_eq!(held(marks(LONG_STRAIGHT), other, &long), refusal);
-    let refusal = Err("at 70 km/h: passes and R 8 4".to_string());
-    assert_eq!(held(marks(LONG_STRAIGHT), None, &long), refusal);
+    assert_eq!(held(marks(LONG_STRAIGHT), judged(CREST), &crest), mark);
+    let refusal = Err("at 60 km/h: R 15 0 and R 8 4".to_string());
+    assert_eq!(held(marks(LONG_STRAIGHT), judged(CREST), &long), refusal);
+    let refusal = Err("at 60 km/h: R 8 4 and R 15 0".to_string());
+    assert_eq!(held(marks(CREST), judged(LONG_STRAIGHT), &crest), refusal);
 }

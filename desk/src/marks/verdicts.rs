@@ -1,12 +1,13 @@
 //! What each of the seven speeds says of a road: the library's marks, and where one does not stand the first refusal, as
-//! the second reading of the papers has it.
+//! the library and the second reading of the papers have it.
 
 use proved::{Marks, SPEEDS};
 use reference::file::{read, Alignment, Refusal};
 use reference::limits::speed;
 use reference::marks::first_refusal_at;
 
-use crate::agreement::{as_read, judged, line};
+use super::by_class::judged_at;
+use crate::agreement::{as_read, line};
 use crate::language::Language;
 use crate::words::{common, marks as words, show};
 
@@ -41,7 +42,6 @@ pub enum Agreed {
 
 /// What both say of a file; words where they differ.
 pub fn agreed(file: &[u8], language: Language) -> Result<Agreed, String> {
-    let own = judged(file, language)?.map(as_read);
     match (proved::marks(file), read(file)) {
         (Err(refusal), Err(second)) if as_read(refusal) == second => Ok(Agreed::Unread(refusal)),
         (Ok(marks), Ok(alignment)) => {
@@ -53,7 +53,8 @@ pub fn agreed(file: &[u8], language: Language) -> Result<Agreed, String> {
                 alignment,
                 verdicts,
             };
-            hold_against(marks, own, &road, language)?;
+            let judged = SPEEDS.map(|speed| judged_at(file, speed));
+            hold_against(marks, judged, &road, language)?;
             Ok(Agreed::Marked(Box::new(road)))
         }
         (marks, alignment) => {
@@ -68,27 +69,24 @@ fn reading(refusal: Option<Refusal>, language: Language) -> String {
     refusal.map_or_else(|| language.say(show::READ, &[]), line)
 }
 
-/// The library's marks at every speed, and at the design speed its refusal too; words where the second reading differs.
+/// The library's marks at every speed, and its refusals at those that a class has; words where the second reading differs.
 pub(super) fn hold_against(
     marks: Marks,
-    own: Option<Refusal>,
+    judged: [Option<Option<Refusal>>; SPEEDS.len()],
     road: &Marked,
     language: Language,
 ) -> Result<(), String> {
-    let design_speed = road.design_speed();
-    for verdict in &road.verdicts {
-        let mark_differs = marks.stands_at(verdict.speed) != verdict.refusal.is_none();
-        let refusal_differs = verdict.speed == design_speed && verdict.refusal != own;
-        if mark_differs || refusal_differs {
-            let first = match (marks.stands_at(verdict.speed), refusal_differs) {
-                (_, true) => passing(own, language),
-                (true, false) => language.say(words::PASSES, &[]),
-                (false, false) => language.say(words::FAILS, &[]),
-            };
-            let values: [&dyn std::fmt::Display; 3] =
-                [&verdict.speed, &first, &passing(verdict.refusal, language)];
-            return Err(language.say(words::DIFFERENT_AT, &values));
-        }
+    for (verdict, judged) in road.verdicts.iter().zip(judged) {
+        let stands = marks.stands_at(verdict.speed);
+        let first = match judged {
+            Some(refusal) if refusal != verdict.refusal => passing(refusal, language),
+            _ if stands == verdict.refusal.is_none() => continue,
+            _ if stands => language.say(words::PASSES, &[]),
+            _ => language.say(words::FAILS, &[]),
+        };
+        let values: [&dyn std::fmt::Display; 3] =
+            [&verdict.speed, &first, &passing(verdict.refusal, language)];
+        return Err(language.say(words::DIFFERENT_AT, &values));
     }
     Ok(())
 }
