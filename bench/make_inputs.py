@@ -5,6 +5,7 @@
     usual.in     5 km, a row every 20 m
     refused.in   the largest road, with a crossfall that changes on the last arc (R 19 194)
     mountain.in  100 km, a row every metre, most of them on egg curves and in reversing bends
+    any_speed.in the mountain road with wider bends and milder grades: it passes at all seven speeds
 
 The files are the same at every run.
 """
@@ -73,11 +74,11 @@ def plan(straights, bends):
     return elements, points, station
 
 
-def hundred_tangents(total):
+def hundred_tangents(total, least=40_000, spread=60_000):
     """Uphill and downhill in turn, with curves between them; at 40 km/h, 100 km."""
     tangents = []
     for i in range(99):
-        grade = 40_000 + i // 2 * 6151 % 60_000 + i % 7
+        grade = least + i // 2 * 6151 % spread + i % 7
         half = 400_003 + i * 3571 % 50_000
         tangents.append((999_503 + i * 577 % 1009, grade if i % 2 == 0 else -grade, half))
     rest = total - sum(t[0] for t in tangents)
@@ -131,12 +132,12 @@ def usual():
     return encode(2, 2, 20_000, 5_000, elements, 212_345, tangents, points)
 
 
-def mountain():
-    """40 km/h: 80 arcs, no two of one radius, none over 1,000,000. From one to the next lead an egg
-    (E), a reversing pair (P) or two clothoids with a straight between them (S): 45, 31 and 3 times.
-    200 elements, 100 tangents, 200 crossfall points: both ends of arcs and straights, and where the
-    clothoids of a pair meet, the first pair apart."""
-    total = 100_000_000
+def eggs_and_pairs(total, least_radius, least_straight):
+    """80 arcs, no two of one radius, none over 1,000,000. From one to the next lead an egg (E), a
+    reversing pair (P) or two clothoids with a straight between them (S): 45, 31 and 3 times. 200
+    elements, 200 crossfall points: both ends of arcs and straights, and where the clothoids of a pair
+    meet, the first pair apart."""
+    radii = 1_000_001 - least_radius
     links = ("PEPEE" * 16)[:76]
     links = "S".join(links[i : i + 19] for i in range(0, 76, 19))
     elements, points, station = [], [], 0
@@ -156,14 +157,14 @@ def mountain():
         point(ROOF)
 
     def arc(i, turn):
-        radius = turn * (1_000_000 - (361_013 + 7919 * i) * i % 955_001)
+        radius = turn * (1_000_000 - (361_013 + 7919 * i) * i % radii)
         on_arc = tilt(radius, 25_000 + 977 * i % 45_000)
         point(on_arc)
         add(ARC, 149_003, radius)
         point(on_arc)
 
     turn = 1
-    straight(199_001)
+    straight(least_straight)
     add(CLOTHOID, 149_003)
     arc(0, turn)
     for i, link in enumerate(links, 1):
@@ -177,14 +178,30 @@ def mountain():
             add(CLOTHOID, 655_003)
         else:
             add(CLOTHOID, 149_003)
-            straight(199_001)
+            straight(least_straight)
             add(CLOTHOID, 149_003)
         arc(i, turn)
     add(CLOTHOID, 149_003)
     straight(total - station - len(elements) * 7919 % 1201)
     assert station == total and len(elements) == len(points) == 200
     assert len({abs(radius) for kind, _, radius in elements if kind == ARC}) == 80
+    return elements, points
+
+
+def mountain():
+    """40 km/h: 200 elements, 100 tangents, 200 crossfall points."""
+    total = 100_000_000
+    elements, points = eggs_and_pairs(total, 45_000, 199_001)
     return encode(4, 3, 1_000, 5_000, elements, 1_000_000, hundred_tangents(total), points)
+
+
+def any_speed():
+    """100 km/h, within the limits of every lower speed too: no straight over 1,200 m, no roof on an
+    arc. The lists are as long as the mountain road's."""
+    total = 100_000_000
+    elements, points = eggs_and_pairs(total, 450_000, 200_003)
+    tangents = hundred_tangents(total, 20_000, 29_995)
+    return encode(1, 1, 1_000, 5_000, elements, 300_000, tangents, points)
 
 
 def main():
@@ -196,6 +213,7 @@ def main():
     (folder / "usual.in").write_bytes(usual())
     (folder / "refused.in").write_bytes(largest(change_on_last_arc=1))
     (folder / "mountain.in").write_bytes(mountain())
+    (folder / "any_speed.in").write_bytes(any_speed())
 
 
 main()
