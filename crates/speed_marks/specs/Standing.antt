@@ -1,17 +1,15 @@
 -- When a mark stands: bit k of the set is the mark of 40 + 10 k km/h, which stands where every rule is kept; that of the class's own speed stands exactly where the file is accepted.
-use mathlib.Core.Path.{_≡_, refl, sym, ap, _∙_, subst}
+use mathlib.Core.Path.{_≡_, refl, sym, ap, _∙_}
 use mathlib.Core.Logic.{_↔_}
-use Prim.Native.Nat.{ℕ, zero, suc, _+_, _*_, _-_, _/_, _%_, _^_, _<_}
-use native.Mathlib.Nat.{div-div-eq-div-mul, pow-succ'}
+use Prim.Native.Nat.{ℕ, zero, suc, _+_, _*_, _-_, _/_, _<_}
 use native.Mathlib.Omega.{arith}
 use mathlib.Core.Bool.{Bool, true, false, _&&_}
 use mathlib.Core.List.{List, [], _∷_, map}
-use borrow.Author.Tests.{eq-eqb, ne-eqb}
 use lib.ListN.{length, getD}
 use lib.Dec.{ltb, eqb, ltb→lt, eqb→eq}
 use Rattle.file_numbers.specs.Reading.{Got, got, refused}
 use Rattle.road.specs.File.{Road, read}
-use Rattle.road.specs.Limits.{Limits, speeds, speed, limitsAt, limitsOf, limits}
+use Rattle.road.specs.Limits.{speeds, speed, limitsOf, limits}
 use Rattle.road.specs.Rules.{Verdict, passes, breaks, order, judged, accepted}
 use Rattle.road.specs.declared.Rule.{Rule}
 use Rattle.laws_of_lists.specs.Each.{all, each-below}
@@ -19,31 +17,10 @@ use Rattle.laws_of_lists.specs.Tests.{and-T}
 use Rattle.laws_of_acceptance.specs.Judging.{Keeps, ruleAt, passes-kept, kept-passes, kept-by-name}
 use Rattle.laws_of_acceptance.specs.Ranged.{read-range}
 use Rattle.laws_of_acceptance.specs.Refusals.{accepted-iff}
-use Rattle.speed_marks.specs.Marks.{triedSpeeds, limitsWith, isPassed, stands, bit, setOf, marks, Marked, turnedAway, marked, marksOn, marksAnswer}
-use Rattle.speed_marks.specs.Sets.{bit-most, set-below}
+use Rattle.speed_marks.specs.Marks.{triedSpeeds, limitsWith, isPassed, stands, marks, turnedAway, marksOn, marksAnswer}
+use Rattle.speed_marks.specs.Sets.{hasBit, set-below, set-bit}
 
--- ---- the bits of the set
-
--- bit k of a number is 1
-abbrev pub hasBit : (n k : ℕ) → Bool
-hasBit n k = eqb (n / 2 ^ k % 2) 1
-
--- the lowest bit is the first mark, and half the number has the others
-low-bit : (mark : Bool) (n : ℕ) → hasBit (bit mark + 2 * n) 0 ≡ mark
-low-bit true n = eq-eqb ((1 + 2 * n) / 1 % 2) 1 (omega arith)
-low-bit false n = ne-eqb ((0 + 2 * n) / 1 % 2) 1 (λ e. omega arith)
-
-next-bit : (mark : Bool) (n k : ℕ) → hasBit (bit mark + 2 * n) (suc k) ≡ hasBit n k
-next-bit mark n k =
-    let m = bit-most mark refl in
-    let half : (bit mark + 2 * n) / 2 ≡ n = omega arith in
-    ap (λ (q : ℕ). eqb (q % 2) 1) (ap (λ (d : ℕ). (bit mark + 2 * n) / d) (pow-succ' 2 k) ∙ sym (div-div-eq-div-mul (bit mark + 2 * n) 2 (2 ^ k)) ∙ ap (λ (q : ℕ). q / 2 ^ k) half)
-
-set-bit : (f : ℕ → Bool) (l : List ℕ) (k : ℕ) → k < length l → hasBit (setOf (map f l)) k ≡ f (getD l k 0)
-unfolding setOf
-set-bit f [] k h = absurd (omega arith)
-set-bit f (x ∷ l) zero h = low-bit (f x) (setOf (map f l))
-set-bit f (x ∷ l) (suc k) h = next-bit (f x) (setOf (map f l)) k ∙ set-bit f l k (omega arith)
+-- ---- the speed of a bit
 
 -- so many speeds from one on, each 10 km/h above the one before
 unfoldable stepped : (from count : ℕ) → List ℕ

@@ -1,4 +1,4 @@
--- The numbers of a call say its answer: no refusal has the number 0, and no station is the mark for none.
+-- The numbers of a call say its answer: no refusal has the number 0, and no station is what stands for none.
 use mathlib.Core.Path.{_≡_, refl, ap}
 use mathlib.Core.Bool.{Bool, true, false}
 use mathlib.Core.List.{List}
@@ -81,7 +81,7 @@ marks-refusal : (n p : ℕ) → 1 ≤ n → marksSaid n p ≡ speeds.turnedAway 
 marks-refusal zero p h = absurd (omega arith)
 marks-refusal (suc k) p h = refl
 
--- a station of a road is not the mark
+-- a station of a road is not what stands for none
 not-mark : (s : ℕ) → s ≤ 100000000 → eqb s markForNone ≡ false
 not-mark s h = ne-eqb s markForNone (λ e. omega arith)
 

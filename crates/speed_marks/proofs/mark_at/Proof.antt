@@ -1,13 +1,12 @@
 -- The road is judged under the limits of the speed and of its own contract.
 use mathlib.Core.Path.{_≡_, sym, ap, _∙_}
-use Prim.Native.Nat.{ℕ}
 use borrow.Author.Needs.{needs}
 use Rattle.road.specs.Held.{roadIn}
 use Rattle.road.specs.Limits as road
 use Rattle.road.specs.Rules.{Verdict, judged}
 use Rattle.rules.specs.Judged.{asVerdict}
 use Rattle.rules.specs.declared.Verdict.{Verdict as Told}
-use Rattle.speed_marks.specs.Marks.{limitsWith, isPassed, stands, bit}
+use Rattle.speed_marks.specs.Marks.{isPassed, stands, bit}
 use Rattle.speed_marks.proofs.mark_at.Statement.{statement}
 use Rattle.speed_marks.proofs.mark_at.Tie as tie
 

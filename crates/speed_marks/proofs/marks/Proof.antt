@@ -1,10 +1,10 @@
 -- A file that does not read keeps its refusal; one that reads has the marks of its road.
-use mathlib.Core.Path.{_≡_, sym, ap, _∙_}
+use mathlib.Core.Path.{sym, ap, _∙_}
 use Prim.Native.Nat.{ℕ}
 use borrow.Author.Needs.{needs}
 use denote.Ref.{now}
 use Rattle.alignment.specs.Back.{WasRead, was-read, was-refused}
-use Rattle.speed_marks.specs.Marks.{Marked, marked, marksAnswer, marksOn}
+use Rattle.speed_marks.specs.Marks.{marked, marksOn, marksAnswer}
 use Rattle.speed_marks.proofs.marks.Statement.{statement}
 use Rattle.speed_marks.proofs.marks.Tie as tie
 

@@ -1,14 +1,12 @@
 -- From the highest speed down: the set has the marks from place k on.
-use mathlib.Core.Path.{_≡_, refl, sym, ap, _∙_}
-use Prim.Native.Nat.{ℕ, suc, _+_, _*_, _-_, _≤_}
+use mathlib.Core.Path.{_≡_, refl, ap, _∙_}
+use Prim.Native.Nat.{ℕ, _-_, _≤_}
 use native.Mathlib.Omega.{arith}
-use native.Mathlib.Numerals.{add-one}
 use mathlib.Core.List.{map}
 use lib.ListN.{drop, getD}
 use borrow.Author.Needs.{needs}
-use Rattle.road.specs.File.{Road}
 use Rattle.road.specs.Held.{roadIn}
-use Rattle.speed_marks.specs.Marks.{triedSpeeds, stands, bit, setOf, marks}
+use Rattle.speed_marks.specs.Marks.{triedSpeeds, stands, setOf, marks}
 use Rattle.speed_marks.specs.Sets.{bit-most, few, one-more}
 use Rattle.speed_marks.proofs.marks_of.Statement.{statement}
 use Rattle.speed_marks.proofs.marks_of.Tie as tie
@@ -25,9 +23,6 @@ loop-holds c = (search needs, refl)
 
 mul-set : tie.Need-mul-set Inv-loop μ-loop
 mul-set c = let h = few (stands (roadIn (c .before .before .args .a))) (c .before .loop .k) in let e = c .before .loop .inv .1 in omega arith
-
-mark-at-requires : tie.Need-mark-at-requires Inv-loop μ-loop
-mark-at-requires c κs = search needs
 
 add-set : tie.Need-add-set Inv-loop μ-loop
 add-set c =
@@ -52,4 +47,4 @@ returns c =
 pub marks-of-spec : {M : Type 1} → statement M
 marks-of-spec =
     tie.close
-    (tie.spec Inv-loop μ-loop loop-holds (λ c. search needs) (λ c. search needs) (λ c. search needs) mul-set mark-at-requires add-set (λ c. search needs) loop-again returns)
+    (tie.spec Inv-loop μ-loop loop-holds (λ c. search needs) (λ c. search needs) (λ c. search needs) mul-set (λ c _. search needs) add-set (λ c. search needs) loop-again returns)
