@@ -1,8 +1,9 @@
-//! Rows and listed stations of the alignment file of a two-lane rural road, and the speeds at which it would pass.
+//! Rows and listed stations of the alignment file of a two-lane rural road, the speeds at which it would pass, and the
+//! rows of a list of pegs.
 //!
-//! Four routines, each a function of the file's bytes, and three of a station in millimetres and a lent buffer. None
-//! keeps state, allocates, calls the system or panics; each needs some 64 KB of stack. A [`Refusal`] leaves the buffer
-//! untouched.
+//! Five routines, each a function of the file's bytes, and but for the marks of stations in millimetres; those that write
+//! rows take a lent buffer. None keeps state, allocates, calls the system or panics; each needs some 64 KB of stack. A
+//! [`Refusal`] leaves the buffer untouched.
 //!
 //! ```
 //! # fn main() -> Result<(), voardusk::Refusal> {
@@ -13,6 +14,10 @@
 //! let row = voardusk::row(file, 80_000, &mut line)?;
 //! assert_eq!(row, b"80000 501600 20000 -25000 -25000 501531 501531 0\n");
 //! assert_eq!(voardusk::marks(file)?.speeds().collect::<Vec<_>>(), [40, 50]);
+//!
+//! let mut out = [0; 2 * voardusk::LINE_LENGTH];
+//! let rows = voardusk::pegs(file, &[80_000, 100_000], &mut out)?;
+//! assert!(rows.starts_with(b"80000 501600 ") && rows.ends_with(b" 501731 501731 0\n"));
 //! # Ok(())
 //! # }
 //! ```
@@ -23,8 +28,11 @@ use std::fmt;
 #[cfg(not(target_arch = "x86_64"))]
 compile_error!("the proved library is for x86-64");
 
-/// A line needs no more bytes than this; a shorter buffer is refused with 20.
+/// A line needs no more bytes than this; a buffer with less for each row asked for is refused with 20.
 pub const LINE_LENGTH: usize = 96;
+
+/// A list has no more pegs than this; the next one is refused with 24.
+pub const PEG_COUNT: usize = 2000;
 
 /// A file has no more bytes than this; a longer one is refused with 1.
 pub const FILE_LENGTH: usize = 8192;
@@ -40,13 +48,14 @@ pub struct Refusal {
 }
 
 impl Refusal {
-    /// 1 to 19, 22 and 23 for the file, 20 for a buffer under [`LINE_LENGTH`] bytes, 21 for a row beyond the road's end.
+    /// 1 to 19, 22 and 23 for the file, 20 for a buffer under [`LINE_LENGTH`] bytes for each row asked for, 21 for a row
+    /// beyond the road's end, 24 for a bad peg.
     pub fn number(self) -> u32 {
         self.number
     }
 
-    /// A byte of the file for 1 to 4 and 22; an element, tangent, vertex or crossfall point from 5 to 19 and of 23; 0 of
-    /// 6, 20 and 21.
+    /// A byte of the file for 1 to 4 and 22; an element, tangent, vertex or crossfall point from 5 to 19 and of 23; the
+    /// peg of 24; 0 of 6, 20 and 21.
     pub fn place(self) -> u64 {
         self.place
     }
@@ -156,6 +165,26 @@ pub fn marks(file: &[u8]) -> Result<Marks, Refusal> {
     Ok(Marks { number: answer })
 }
 
+/// The rows of up to [`PEG_COUNT`] pegs, one behind another: the first bytes of the buffer. Only they change. Each row is
+/// the one that [`row`] gives for the peg's station. The stations ascend; equal ones are allowed.
+pub fn pegs<'b>(file: &[u8], stations: &[u64], out: &'b mut [u8]) -> Result<&'b [u8], Refusal> {
+    let mut answer = 0;
+    // SAFETY: each pointer comes from a reference with its own length, and no two of them overlap.
+    let number = unsafe {
+        exported::voardusk_pegs(
+            file.as_ptr(),
+            file.len(),
+            stations.as_ptr(),
+            stations.len(),
+            out.as_mut_ptr(),
+            out.len(),
+            &mut answer,
+        )
+    };
+    accepted(number, answer)?;
+    Ok(&out[..answer as usize])
+}
+
 /// 0 is no refusal.
 fn accepted(number: u32, place: u64) -> Result<(), Refusal> {
     match number {
@@ -199,5 +228,15 @@ mod exported {
         ) -> u32;
 
         pub fn voardusk_marks(file: *const u8, file_length: usize, answer: &mut u64) -> u32;
+
+        pub fn voardusk_pegs(
+            file: *const u8,
+            file_length: usize,
+            stations: *const u64,
+            station_count: usize,
+            out: *mut u8,
+            out_length: usize,
+            answer: &mut u64,
+        ) -> u32;
     }
 }
