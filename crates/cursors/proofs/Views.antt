@@ -7,10 +7,8 @@ use Rattle.road.specs.Lane.{laneWidth}
 use Rattle.laws_of_stations.specs.Next.{listed-has}
 use Rattle.laws_of_acceptance.specs.Guaranteed.{Guaranteed}
 use Rattle.segment.specs.declared.Segment.{Segment}
-use Rattle.segment_parts.specs.declared.Piece.{Piece}
 use Rattle.segment_parts.specs.declared.Sides.{Sides}
 use Rattle.segment_parts.specs.declared.Curvature.{Curvature}
-use Rattle.segment_parts.specs.Pieces.{PieceAt}
 use Rattle.segment_parts.specs.Sides.{pointStation, sidesOf}
 use Rattle.segment_parts.specs.Ends.{curvatureAt}
 use Rattle.segment_parts.specs.Segments.{segmentOf, jointOf}
@@ -24,36 +22,45 @@ use Rattle.cursors.specs.Places.{PlaceFound}
 use Rattle.cursors.specs.View.{Viewed}
 use Rattle.cursors.proofs.Cursors.{found-later}
 
-module _ {r : Road} (G : Guaranteed r) where
-  module _ (q : Place) (x : ℕ) (f : PlaceFound r q x) (t : x ≤ total r) (p : Piece) (P : PieceAt r p x) where
-    abbrev viewOf : View
-    viewOf = record {
-      place = q;
-      joint = jointOf (p .end) (elementStart r (suc (q .element .index))) (pointStation r (suc (q .point))) x;
-      segment = segmentOf p (sidesOf (pointOf r (q .point)) (pointOf r (suc (q .point)))) (curvatureAt r (q .element .index)) (elementStart r (q .element .index)) (laneWidth r);
-    }
+module _ {r : Road} (G : Guaranteed r) (q : Place) (x : ℕ) (f : PlaceFound r q x) (t : x ≤ total r) where
+  abbrev i : ℕ
+  i = q .element .index
 
-    pub viewed : Viewed r viewOf x
-    viewed =
-        let i = q .element .index in
-        let k = q .point in
-        let j = joint-is G p i k x P (f .element .at) (f .point) t in
-        record {
-          place = λ y l. found-later f l;
-          beyond = j .beyond;
-          end = j .end;
-          shows = λ y l u h. shown G p (curvatureAt r i) i k y (piece-later G P l (j .piece y l u)) (curved G i (f .element .at .below)) (same-item (f .element .at) l (j .element y l u)) (between-points G (f .point) l (j .point y l u) h) h;
-          between = j .free;
-          listed = λ l. listed-has r (viewOf .joint) (j .listed l);
-        }
+  abbrev k : ℕ
+  k = q .crossfall .index
 
-    -- the same of numbers that are equal to these
-    pub viewed-by : {j e lane : ℕ} {s : Segment} {d : Sides} {c : Curvature} → j ≡ viewOf .joint → s ≡ segmentOf p d c e lane → d ≡ sidesOf (pointOf r (q .point)) (pointOf r (suc (q .point))) → c ≡ curvatureAt r (q .element .index) → e ≡ elementStart r (q .element .index)
-        → lane ≡ laneWidth r → Viewed r (record { place = q; joint = j; segment = s }) x
-    viewed-by {j} {e} {lane} {s} {d} {c} u v w b y z = subst (λ (v : View). Viewed r v x) (sym same) viewed
-      where
-        with : ℕ → Segment → View
-        with j s = record { place = q; joint = j; segment = s }
+  abbrev viewOf : View
+  viewOf = record {
+    place = q;
+    joint = jointOf (q .profile .piece .end) (elementStart r (suc i)) (pointStation r (suc k)) x;
+    segment = segmentOf (q .profile .piece) (sidesOf (pointOf r k) (pointOf r (suc k))) (curvatureAt r i) (elementStart r i) (laneWidth r);
+  }
 
-        same : with j s ≡ viewOf
-        same = ap₂ with u (v ∙ ap₂ (λ (d : Sides) (c : Curvature). segmentOf p d c e lane) w b ∙ ap₂ (λ (e l : ℕ). segmentOf p (sidesOf (pointOf r (q .point)) (pointOf r (suc (q .point)))) (curvatureAt r (q .element .index)) e l) y z)
+  viewed : Viewed r viewOf x
+  viewed =
+      let P = f .profile .piece in
+      let E = f .element .at in
+      let K = f .crossfall .at in
+      let j = joint-is G (q .profile .piece) i k x P E K t in
+      record {
+        place = λ y l. found-later G f l;
+        beyond = j .beyond;
+        end = j .end;
+        shows = λ y l u h. shown G (q .profile .piece) (curvatureAt r i) i k y (piece-later G P l (j .piece y l u)) (curved G i (E .below)) (same-item E l (j .element y l u)) (between-points G K l (j .point y l u) h) h;
+        between = j .free;
+        listed = λ l. listed-has r (viewOf .joint) (j .listed l);
+      }
+
+  -- the same by the numbers of the place
+  pub viewed-by : {j lane : ℕ} {s : Segment} → j ≡ jointOf (q .profile .piece .end) (q .element .end) (q .crossfall .end) x → s ≡ segmentOf (q .profile .piece) (q .crossfall .sides) (q .element .curvature) (q .element .begin) lane
+      → lane ≡ laneWidth r → Viewed r (record { place = q; joint = j; segment = s }) x
+  viewed-by {j} {lane} {s} u v z = subst (λ (v : View). Viewed r v x) (sym same) viewed
+    where
+      with : ℕ → Segment → View
+      with j s = record { place = q; joint = j; segment = s }
+
+      same : with j s ≡ viewOf
+      same =
+          ap₂ with (u ∙ ap₂ (λ (m n : ℕ). jointOf (q .profile .piece .end) m n x) (f .element .placed .end) (f .crossfall .placed .end))
+          (v ∙ ap₂ (λ (d : Sides) (c : Curvature). segmentOf (q .profile .piece) d c (q .element .begin) lane) (f .crossfall .placed .sides) (f .element .placed .curvature)
+          ∙ ap₂ (λ (e l : ℕ). segmentOf (q .profile .piece) (sidesOf (pointOf r k) (pointOf r (suc k))) (curvatureAt r i) e l) (f .element .placed .begin) z)
