@@ -1,0 +1,4 @@
+pub mod Pegs
+pub mod Search
+pub mod Answers
+pub mod Rows
