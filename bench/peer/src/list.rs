@@ -40,7 +40,7 @@ impl<W: Write> Output<'_, W> {
 
 /// Writes the rows of all listed stations, in order. The road passed every rule, with this row.
 pub fn list<W: Write>(road: &Alignment, row: &Row, sink: &mut W) -> io::Result<()> {
-    let total: i64 = road.elements().iter().map(|e| e.length as i64).sum();
+    let total = road.total();
     let step = road.step as i64;
     let mut plan = PlanCursor::new(road);
     let mut profile = ProfileCursor::new(road);
