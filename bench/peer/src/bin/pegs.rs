@@ -81,7 +81,7 @@ fn sum_of(kind: &str, often: u64, file: &mut File) -> Option<u32> {
     })
 }
 
-fn time_pegs(file: &mut File, calls: u64) {
+fn time_pegs(file: &mut File, calls: u64) -> io::Result<()> {
     let stations = even_pegs(file);
     let mut out = vec![0; PEGS * LINE_MAX];
     let mut road = Alignment::new();
@@ -99,6 +99,7 @@ fn time_pegs(file: &mut File, calls: u64) {
         "judging apart            {:9.1} ns/peg",
         (both - accept) / PEGS as f64
     );
+    Ok(())
 }
 
 fn stations(text: &str) -> Option<Vec<u64>> {
@@ -122,7 +123,7 @@ fn answer(arguments: &[&str]) -> io::Result<()> {
             _ => usage(),
         },
         [kind, often] => match (kind, often.parse()) {
-            ("--time", Ok(calls @ 1..)) => Ok(time_pegs(&mut file, calls)),
+            ("--time", Ok(calls @ 1..)) => time_pegs(&mut file, calls),
             (_, Ok(often)) => match sum_of(kind, often, &mut file) {
                 Some(sum) => writeln!(io::stdout(), "{sum}"),
                 None => usage(),
