@@ -42,6 +42,17 @@ pub fn changed_bit(file: &File) -> u8 {
     }
 }
 
+/// The sum of the answers of so many calls, modulo 2^32; the file's step is changed after each call.
+pub fn sum(file: &mut File, calls: u64, mut call: impl FnMut(&File) -> u64) -> u32 {
+    let bit = changed_bit(file);
+    let mut sum = 0u32;
+    for _ in 0..calls {
+        sum = sum.wrapping_add(black_box(call(black_box(file))) as u32);
+        file.bytes[2] ^= bit;
+    }
+    sum
+}
+
 /// Nanoseconds of a call, in the best batch; the file's step is changed before each call.
 pub fn time(file: &mut File, calls: u64, mut call: impl FnMut(&File)) -> f64 {
     let bit = changed_bit(file);

@@ -7,7 +7,7 @@ use std::hint::black_box;
 use std::io;
 use std::process::exit;
 
-use peer::calls::{changed_bit, standard_input, time, BATCH};
+use peer::calls::{standard_input, sum, time, BATCH};
 use peer::marks::{marks, plain_marks};
 use peer::read::{read, Alignment};
 use peer::Refusal;
@@ -26,13 +26,9 @@ fn print_marks() -> io::Result<()> {
 fn marks_often(calls: u64) -> io::Result<()> {
     let mut file = standard_input()?;
     let mut road = Alignment::new();
-    let bit = changed_bit(&file);
-    let mut sum = 0u64;
-    for _ in 0..calls {
-        let answer = black_box(read(black_box(&file), &mut road).map(|()| marks(&road)));
-        sum += u64::from(answer.unwrap_or(0));
-        file.bytes[2] ^= bit;
-    }
+    let sum = sum(&mut file, calls, |file| {
+        read(file, &mut road).map_or(0, |()| u64::from(marks(&road)))
+    });
     println!("{sum}");
     Ok(())
 }
