@@ -20,6 +20,7 @@ pub mod manual;
 pub mod marks;
 pub mod names;
 pub mod next;
+pub mod pegs;
 pub mod quantity;
 pub mod reading;
 pub mod refusals;
