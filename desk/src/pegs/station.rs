@@ -12,6 +12,9 @@ const NAMES: [&str; 5] = [
     "стационажа",
 ];
 
+/// What may stand before a station, as in `km 95,850`.
+const KILOMETRE: [&str; 2] = ["km", "км"];
+
 /// The unit that a head names; a number without any is in millimetres.
 #[derive(Clone, Copy, Debug, PartialEq, Eq)]
 pub enum Unit {
@@ -37,8 +40,9 @@ pub fn unit(head: &[u8]) -> Option<Unit> {
 
 /// Whether a cell may be meant as a number, well written or not: a line with such a cell is no head line.
 pub fn may_be_number(cell: &[u8]) -> bool {
-    let cell = String::from_utf8_lossy(cell);
-    let unsigned = cell.trim_start_matches(|letter: char| "+-\u{2212}., ".contains(letter));
+    let cell = String::from_utf8_lossy(cell).to_lowercase();
+    let kilometre = KILOMETRE.iter().find_map(|unit| cell.strip_prefix(unit));
+    let unsigned = kilometre.unwrap_or(&cell).trim_start_matches(is_of_number);
     let has_plus = cell.contains('+') && cell.contains(char::is_numeric);
     has_plus || unsigned.starts_with(char::is_numeric)
 }
@@ -74,6 +78,11 @@ pub fn with_decimal_comma(whole: &[u8], part: &[u8], unit: Unit) -> Option<Strin
     let is_part = part.first().is_some_and(u8::is_ascii_digit);
     let part = String::from_utf8_lossy(part);
     (may_go_on && is_part).then(|| format!("{whole},{}", part.trim_end()))
+}
+
+/// What may stand before the first digit of a number.
+fn is_of_number(letter: char) -> bool {
+    letter.is_whitespace() || "+-\u{2212}.,".contains(letter)
 }
 
 fn ends_in_digit(word: &str) -> bool {
@@ -117,11 +126,11 @@ mod tests {
     #[test]
     fn cells_that_may_be_numbers() {
         for cell in [
-            "0", "-5", "95.850", "12a", " .5", "km 0+095", "+7", "95'850",
+            "0", "-5", "95.850", "12a", " .5", "km 0+095", "KM 95", "\u{A0}5", "+7", "95'850",
         ] {
             assert!(may_be_number(cell.as_bytes()), "{cell}");
         }
-        for cell in ["", "P1", "left", "K-3", "offset +/-", "#1"] {
+        for cell in ["", "P1", "left", "K-3", "km", "offset +/-", "#1"] {
             assert!(!may_be_number(cell.as_bytes()), "{cell}");
         }
     }
