@@ -8,7 +8,7 @@ use crate::language::Language;
 use crate::names::plain;
 use crate::words::{common, Phrase};
 use crate::{
-    compare, folder, help, list, make, manual, marks, next, report, row, show, why, writing,
+    compare, folder, help, list, make, manual, marks, next, pegs, report, row, show, why, writing,
 };
 
 /// A command: how it is called, what it does, and the function that does it.
@@ -29,6 +29,7 @@ pub struct Command {
 pub const COMMANDS: &[Command] = &[
     list::COMMAND,
     row::COMMAND,
+    pegs::COMMAND,
     next::COMMAND,
     show::COMMAND,
     make::COMMAND,

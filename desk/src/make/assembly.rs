@@ -7,8 +7,8 @@ use crate::make::Made;
 use crate::text::lines::{Part, Role, DATED};
 use crate::text::numbers::{number_at, put};
 use crate::text::MOST_BYTES;
-use crate::words::make as words;
 use crate::words::text::NAMED;
+use crate::words::{common, make as words};
 
 /// A list of items: where its first one begins, and how many there are.
 #[derive(Clone, Copy)]
@@ -61,7 +61,7 @@ impl Assembly {
         }
         let language = self.language;
         let remarks = item.remarks.iter();
-        let at_line = remarks.map(|remark| language.say(words::AT_LINE, &[&at, remark]));
+        let at_line = remarks.map(|remark| language.say(common::AT_LINE, &[&at, remark]));
         self.remarks.extend(at_line);
         self.bytes.extend(item.bytes);
         match self.bytes.len() > MOST_BYTES {

@@ -1,8 +1,8 @@
 //! A line of a text as the bytes of its item.
 
 use crate::language::Language;
-use crate::make::source::visible;
 use crate::make::value::{self, Words};
+use crate::source::visible;
 use crate::text::fields::Field;
 use crate::text::lines::{all, named, Line, Role};
 use crate::text::numbers::{put, written};

@@ -3,7 +3,6 @@
 mod assembly;
 mod item;
 mod order;
-mod source;
 mod value;
 
 use std::io::{self, IsTerminal};
@@ -14,7 +13,7 @@ use crate::fault::{End, Fault};
 use crate::language::Language;
 use crate::names::shown;
 use crate::words::{common, make as words};
-use crate::{reading, writing};
+use crate::{reading, source, writing};
 
 pub const COMMAND: Command = Command {
     name: "make",
@@ -83,12 +82,12 @@ fn say(call: &Call, words: &str) {
 pub fn file(text: &[u8], language: Language) -> Result<Made, String> {
     if text.len() > MOST_TEXT {
         let most = language.number(MOST_TEXT as i128);
-        return Err(language.say(words::TEXT_TOO_LONG, &[&most]));
+        return Err(language.say(common::TEXT_TOO_LONG, &[&most]));
     }
     let text = source::without_mark(text, language)?;
     let mut assembly = assembly::Assembly::new(language);
     for (line, bytes) in (1..).zip(source::lines(text)) {
-        let at_line = |wrong: String| language.say(words::AT_LINE, &[&line, &wrong]);
+        let at_line = |wrong: String| language.say(common::AT_LINE, &[&line, &wrong]);
         let said = source::before_comment(bytes, language).map_err(at_line)?;
         let item = item::read(said, language).map_err(at_line)?;
         if let Some(item) = item {

@@ -3,8 +3,7 @@
 use crate::language::Language;
 use crate::text::lines::{Line, Role};
 use crate::text::lines::{Part, CURVE, WHOLE};
-use crate::words::make as words;
-use crate::words::Phrase;
+use crate::words::{common, make as words, Phrase};
 
 /// What was seen of a text so far, and the first thing that is wrong with its order.
 pub struct Order {
@@ -50,7 +49,7 @@ impl Order {
     /// The first fault stays.
     fn note(&mut self, at: usize, phrase: Phrase, values: &[&dyn std::fmt::Display]) {
         let words = self.language.say(phrase, values);
-        let words = self.language.say(words::AT_LINE, &[&at, &words]);
+        let words = self.language.say(common::AT_LINE, &[&at, &words]);
         self.wrong.get_or_insert(words);
     }
 

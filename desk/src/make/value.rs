@@ -4,11 +4,11 @@ use std::iter::Peekable;
 use std::str::SplitWhitespace;
 
 use crate::language::Language;
-use crate::make::source::visible;
 use crate::quantity::{is_ambiguous, nearest, unscaled, whole};
+use crate::source::visible;
 use crate::text::date;
 use crate::text::fields::{Field, Measure};
-use crate::words::make as words;
+use crate::words::{common, make as words};
 
 pub type Words<'t> = Peekable<SplitWhitespace<'t>>;
 
@@ -121,7 +121,7 @@ impl Written<'_> {
             return self.in_whole_units();
         }
         if is_ambiguous(self.number) {
-            return Err(self.wrong(words::AMBIGUOUS, &[]));
+            return Err(self.wrong(common::AMBIGUOUS, &[]));
         }
         let (below, above) =
             nearest(self.number, decimals).ok_or_else(|| self.wrong(words::NO_NUMBER, &[]))?;

@@ -24,6 +24,10 @@ crate::phrases! {
     DIFFERENT_ROWS: "their rows differ", "редови се разликују";
     DIFFERENT_REFUSALS: "{0} and {1}", "{0} и {1}";
     LISTED: "listed", "исписано";
+    AT_LINE: "line {0}: {1}", "{0}. ред текста: {1}";
+    TEXT_TOO_LONG: "the text is longer than {0} bytes", "текст је дужи од {0} бајтова";
+    UTF_16: "the text is in UTF-16; it has to be saved in UTF-8", "текст је у UTF-16; треба га сачувати у UTF-8";
+    AMBIGUOUS: "`{0}`: the comma may begin the decimals or separate the thousands; write the decimals behind a point", "`{0}`: зарез може да почиње децимале или да одваја хиљаде; децимале треба писати иза тачке";
     UNKNOWN_COMMAND: "no command `{0}`; `voardusk --help` names them", "нема наредбе `{0}`; `voardusk --help` их набраја";
     NO_COMMAND: "a command is missing\n\n{0}", "недостаје наредба\n\n{0}";
     COMMAND_FIRST: "the command comes first, its options after it: `voardusk {0} ..`", "прво долази наредба, а њене опције иза ње: `voardusk {0} ..`";

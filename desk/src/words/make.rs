@@ -5,11 +5,8 @@ crate::phrases! {
     HELP: "Writes the file to standard output, or with `-o FILE` into a file, whole or not at all. TEXT may be -, standard input. A value outside its range is written all the same and named on standard error: judging is the work of `voardusk list`. A text that is no alignment is turned away with status 1, its line named.\n\n    voardusk make examples/crest.txt -o crest.alignment\n    voardusk show crest.alignment\n\n{0}",
         "Пише датотеку на стандардни излаз, или са `-o FILE` у датотеку, цело или никако. TEXT може бити -, стандардни улаз. Вредност ван опсега се ипак записује и наводи на стандардном излазу за грешке: провера је посао наредбе `voardusk list`. Текст који није траса одбија се са статусом 1, уз навођење реда.\n\n    voardusk make examples/crest.txt -o crest.alignment\n    voardusk show crest.alignment\n\n{0}";
     TERMINAL: "the file is no text for a terminal; name a file: `voardusk make TEXT -o FILE`", "датотека није текст за терминал; треба навести датотеку: `voardusk make TEXT -o FILE`";
-    AT_LINE: "line {0}: {1}", "{0}. ред текста: {1}";
     MORE_REMARKS: "and {0} more values outside their ranges", "и још вредности ван опсега: {0}";
-    TEXT_TOO_LONG: "the text is longer than {0} bytes", "текст је дужи од {0} бајтова";
     FILE_TOO_LONG: "the file would be longer than {0} bytes", "датотека би била дужа од {0} бајтова";
-    UTF_16: "the text is in UTF-16; it has to be saved in UTF-8", "текст је у UTF-16; треба га сачувати у UTF-8";
     NO_TEXT: "byte {0} of the line, {1} hexadecimal, is no text in UTF-8; `voardusk show` shows an alignment file as text", "{0}. бајт реда, хексадецимално {1}, није текст у UTF-8; `voardusk show` приказује датотеку трасе као текст";
     UNKNOWN_KEYWORD: "`{0}` begins no line; a line begins with one of {1}", "ниједан ред не почиње са `{0}`; ред почиње једном од речи {1}";
     AFTER_KEYWORD: "after `{0}` come: {1}; for instance `{2}`", "иза `{0}` долази: {1}; на пример `{2}`";
@@ -19,7 +16,6 @@ crate::phrases! {
     READ_AS_DATED: "a file that begins with {0} is read as one with a contract date", "датотека која почиње са {0} чита се као она са датумом уговора";
     NO_WHOLE_NUMBER: "`{0}` is no whole number; metres and percent are written with their unit, as `120.5 m` and `2.5 %`, and nothing separates the thousands", "`{0}` није цео број; метри и проценти се пишу са јединицом, као `120,5 m` и `2,5 %`, а хиљаде се не одвајају";
     WITHOUT_DECIMALS: "`{0}`: {1} are a whole number, without point or comma", "`{0}`: {1} се пише као цео број, без тачке и зареза";
-    AMBIGUOUS: "`{0}`: the comma may begin the decimals or separate the thousands; write the decimals behind a point", "`{0}`: зарез може да почиње децимале или да одваја хиљаде; децимале треба писати иза тачке";
     NO_UNIT: "`{0}`: there is no unit here", "`{0}`: овде нема јединице";
     WRONG_UNIT: "`{0}`: the unit here is {1} or {2}", "`{0}`: јединица је овде {1} или {2}";
     NOT_EXACT: "`{0}` is no whole number of {1}; the nearest are {2} {4} and {3} {4}", "`{0}` није цео број {1}; најближе вредности су {2} {4} и {3} {4}";

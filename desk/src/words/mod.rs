@@ -8,6 +8,7 @@ pub mod limits;
 pub mod make;
 pub mod marks;
 pub mod months;
+pub mod pegs;
 pub mod report;
 pub mod rules;
 pub mod show;
@@ -44,6 +45,7 @@ pub const TABLES: &[&[(&str, Phrase)]] = &[
     make::ALL,
     marks::ALL,
     months::ALL,
+    pegs::ALL,
     report::ALL,
     rules::ALL,
     show::ALL,

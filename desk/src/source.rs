@@ -1,7 +1,7 @@
-//! A text as lines and words.
+//! A text that people wrote or exported, as lines and words.
 
 use crate::language::Language;
-use crate::words::make as words;
+use crate::words::{common, make};
 
 const BYTE_ORDER_MARK: &[u8] = b"\xEF\xBB\xBF";
 
@@ -11,7 +11,7 @@ const MOST_LETTERS: usize = 40;
 /// The text after its byte order mark. Text in UTF-16 has another mark.
 pub fn without_mark(text: &[u8], language: Language) -> Result<&[u8], String> {
     if text.starts_with(b"\xFF\xFE") || text.starts_with(b"\xFE\xFF") {
-        return Err(language.say(words::UTF_16, &[]));
+        return Err(language.say(common::UTF_16, &[]));
     }
     Ok(text.strip_prefix(BYTE_ORDER_MARK).unwrap_or(text))
 }
@@ -39,7 +39,7 @@ pub fn before_comment(line: &[u8], language: Language) -> Result<&str, String> {
     std::str::from_utf8(line).map_err(|fault| {
         let place = fault.valid_up_to();
         let byte = format!("{:02x}", line[place]);
-        language.say(words::NO_TEXT, &[&(place + 1), &byte])
+        language.say(make::NO_TEXT, &[&(place + 1), &byte])
     })
 }
 
