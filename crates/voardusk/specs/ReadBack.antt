@@ -3,8 +3,8 @@ use mathlib.Core.Path.{_≡_, refl, ap}
 use mathlib.Core.Bool.{Bool, true, false}
 use mathlib.Core.List.{List}
 use mathlib.Core.Logic.{_⊎_, inl, inr}
-use mathlib.Core.Option.{Option}
-use Prim.Native.Nat.{ℕ, zero, suc, _≤_}
+use mathlib.Core.Option.{Option, none, some}
+use Prim.Native.Nat.{ℕ, zero, suc, _*_, _≤_}
 use native.Mathlib.Omega.{arith}
 use borrow.Author.Tests.{ne-eqb}
 use lib.Dec.{ltb, eqb}
@@ -28,6 +28,7 @@ use Rattle.walk.specs.declared.Onward.{Onward}
 use Rattle.walk.specs.declared.Onward.the-variants as onwards
 use Rattle.listing.specs.Chunks.{Listed, turnedAway, part, listOn, listAnswer}
 use Rattle.speed_marks.specs.Marks as speeds
+use Rattle.pegs.specs.Pegs.{firstBad, rowsOr24, pegsOn, pegsAnswer}
 use Rattle.voardusk.specs.Codes.{markForNone, returnedNumber, answerNumber, listReturnedNumber, listAnswerNumber, listNextNumber, marksReturnedNumber, marksAnswerNumber}
 
 -- ---- what a caller reads from the numbers
@@ -152,3 +153,17 @@ marks-read-back f = go (read f) refl
     go : (g : Got Road) → read f ≡ g → MarksBack (speeds.marksOn g)
     go (refused n p) e = marks-refusal n p (read-above f n p e)
     go (got r end) e = refl
+
+-- the pegs, read as a row is
+pub pegs-read-back : (f pegs : List ℕ) (room : ℕ) → RowBack (pegsAnswer f pegs room)
+unfolding pegsAnswer
+pegs-read-back f pegs room = go (accepted f) refl
+  where
+    by : (r : Road) (o : Option ℕ) (short : Bool) → RowBack (if short then refusal 20 0 else rowsOr24 r pegs o)
+    by r o true = refl
+    by r (some i) false = refl
+    by r none false = refl
+
+    go : (g : Got Road) → accepted f ≡ g → RowBack (pegsOn pegs room g)
+    go (refused n p) e = row-refusal n p (number-above f n p e)
+    go (got r end) e = by r (firstBad (total r) pegs) (ltb room (96 * length pegs))

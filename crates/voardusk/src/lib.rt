@@ -1,10 +1,12 @@
-// The routines for programs in other languages: the row of a station, the next listed station, many rows at a time, the speeds at which a road would pass.
+// The routines for programs in other languages: the row of a station, the next listed station, many rows at a time, the speeds at which a road would pass,
+// the rows of a list of pegs.
 // Each returns 0, or a refusal's number with its place in `answer`.
 ghost use mathlib.Core.Path.{_≡_};
 ghost use lib.ListN.{length};
 ghost use Rattle.road.specs.Machine.{rowAnswer, rowBuffer, nextAnswer};
 ghost use Rattle.listing.specs.Chunks.{listAnswer, listBuffer};
 ghost use Rattle.speed_marks.specs.Marks.{marksAnswer};
+ghost use Rattle.pegs.specs.Pegs.{pegsAnswer, pegsBuffer};
 ghost use Rattle.voardusk.specs.Codes.{returnedNumber, answerNumber, listReturnedNumber, listAnswerNumber, listNextNumber, marksReturnedNumber, marksAnswerNumber};
 use listing::ListAnswer;
 use road::NextAnswer;
@@ -100,6 +102,25 @@ pub extern "C" fn voardusk_marks(file: &[u8], answer: &mut u64) -> u32
         }
         MarksAnswer::Marks(set) => {
             *answer = set as u64;
+            0
+        }
+    }
+}
+
+// The rows of the pegs one behind another over the first bytes of the buffer, their total length in `answer`.
+#[no_mangle]
+pub extern "C" fn voardusk_pegs(file: &[u8], stations: &[u64], out: &mut [u8], answer: &mut u64) -> u32
+    ensures { λ r. ⌜ r ≡ returnedNumber (pegsAnswer (now (file .entry)) (now (stations .entry)) (length (now (out .entry)))) ⌝ }
+    ensures { λ _. ⌜ now (answer .exit) ≡ answerNumber (pegsAnswer (now (file .entry)) (now (stations .entry)) (length (now (out .entry)))) ⌝ }
+    ensures { λ _. ⌜ now (out .exit) ≡ pegsBuffer (now (file .entry)) (now (stations .entry)) (now (out .entry)) ⌝ }
+{
+    match pegs::peg_rows(file, stations, out) {
+        RowAnswer::Refused(number, place) => {
+            *answer = place as u64;
+            number
+        }
+        RowAnswer::Length(length) => {
+            *answer = length as u64;
             0
         }
     }
