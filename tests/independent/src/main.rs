@@ -9,6 +9,7 @@ mod halves;
 mod hexadecimal;
 mod limits_seen;
 mod marks;
+mod run;
 mod summary;
 mod vectors;
 

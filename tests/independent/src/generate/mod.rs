@@ -10,6 +10,7 @@ pub mod numbers;
 pub mod order;
 pub mod random;
 pub mod road;
+pub mod stations;
 pub mod valid;
 
 #[cfg(test)]
