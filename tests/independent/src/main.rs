@@ -9,6 +9,8 @@ mod halves;
 mod hexadecimal;
 mod limits_seen;
 mod marks;
+mod pegs;
+mod pegs_seen;
 mod run;
 mod summary;
 mod vectors;

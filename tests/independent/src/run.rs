@@ -6,6 +6,7 @@ use crate::hexadecimal;
 use crate::summary::Summary;
 use reference::file::Refusal;
 use reference::machine::{self, Answer, PartAnswer};
+use reference::pegs;
 
 pub fn refusal(refusal: voardusk::Refusal) -> Refusal {
     Refusal {
@@ -92,6 +93,32 @@ impl<'f> Run<'f> {
             return Err(self.difference(&call, &library, &machine));
         }
         Ok(machine)
+    }
+
+    /// Compares a call for the rows of pegs; the reference's answer.
+    pub fn pegs(
+        &mut self,
+        stations: &[u64],
+        summary: &mut Summary,
+    ) -> Result<Result<usize, Refusal>, String> {
+        let lent = stations.to_vec();
+        let (library, rows) = match voardusk::pegs(self.file, &lent, &mut self.library_buffer) {
+            Ok(rows) => (Ok(rows.len()), rows.to_vec()),
+            Err(refused) => (Err(refusal(refused)), Vec::new()),
+        };
+        let reference = pegs::pegs(self.file, stations, &mut self.machine_buffer);
+        if let Err(refused) = &reference {
+            summary.count_refused_call(refused.number);
+        }
+        let same_rows = self.library_buffer.get(..rows.len()) == Some(&rows);
+        if library != reference || self.library_buffer != self.machine_buffer || !same_rows {
+            let call = format!("pegs {stations:?} in {} bytes", self.library_buffer.len());
+            return Err(self.difference(&call, &library, &reference));
+        }
+        match lent == stations {
+            true => Ok(reference),
+            false => Err(format!("the list {stations:?} was changed to {lent:?}")),
+        }
     }
 
     /// Says what differs after a call.
