@@ -21,7 +21,8 @@ pub fn peg_list(random: &mut Random, road: Option<&Alignment>, joints: &[i128]) 
     if random.chance(40) {
         repeat_some(random, &mut pegs);
     }
-    if random.chance(35) {
+    // A list that is too long tells the first bad peg where it has another one.
+    if random.chance(if count > MOST_PEGS { 70 } else { 35 }) {
         for _ in 0..random.pick(&[1, 1, 1, 2, 3]) {
             spoil(random, &mut pegs, end);
         }
@@ -59,10 +60,10 @@ fn random_count(random: &mut Random) -> usize {
 
 fn long_count(random: &mut Random) -> usize {
     match random.place(16) {
-        0..=4 => random.between(61, 400) as usize,
-        5 => MOST_PEGS - 1,
-        6..=7 => MOST_PEGS,
-        8..=12 => MOST_PEGS + 1,
+        0..=3 => random.between(61, 400) as usize,
+        4 => MOST_PEGS - 1,
+        5..=6 => MOST_PEGS,
+        7..=10 => MOST_PEGS + 1,
         _ => MOST_PEGS + random.between(2, 100) as usize,
     }
 }
@@ -77,8 +78,8 @@ fn ascending(
     let end = joints[joints.len() - 1];
     let mut pegs: Vec<i128> = match random.place(7) {
         0 => (0..count).map(|_| random.between(0, end)).collect(),
-        1 => (0..count).map(|_| asked_alone(random, road)).collect(),
-        2..=3 => (0..count).map(|_| beside(random, joints)).collect(),
+        1 if count <= 60 => (0..count).map(|_| asked_alone(random, road)).collect(),
+        1..=3 => (0..count).map(|_| beside(random, joints)).collect(),
         4 => dense(random, joints, count),
         5 => one_in_each_stretch(random, joints, count),
         _ => far_apart(random, joints, count),
@@ -145,14 +146,16 @@ fn repeat_some(random: &mut Random, pegs: &mut [i128]) {
     }
 }
 
-/// Makes the first peg bad, the last or any: it falls, or it passes T alone or with all pegs after it.
+/// Makes the first peg bad, the last, one just behind peg 2,000 or any: it falls, or it passes T alone or with all pegs
+/// after it.
 fn spoil(random: &mut Random, pegs: &mut [i128], end: i128) {
     let Some(last) = pegs.len().checked_sub(1) else {
         return;
     };
-    let bad = match random.place(6) {
+    let bad = match random.place(7) {
         0 => 0,
         1 => last,
+        2..=3 => last.min(MOST_PEGS + 1),
         _ => random.place(pegs.len()),
     };
     match random.place(8) {
@@ -187,10 +190,10 @@ fn beyond(random: &mut Random, end: i128) -> i128 {
 fn random_room(random: &mut Random, count: usize) -> usize {
     let full = LEAST_BUFFER * count;
     match random.place(20) {
-        0..=3 => full,
-        4..=8 => full + random.between_by_size(1, 4_000) as usize,
-        9 => full + random.between(1, 96) as usize,
-        10..=15 => LEAST_BUFFER * count.min(MOST_PEGS),
+        0..=5 => full,
+        6..=10 => full + random.between_by_size(1, 4_000) as usize,
+        11 => full + random.between(1, 96) as usize,
+        12..=15 => LEAST_BUFFER * count.min(MOST_PEGS),
         16 => full.saturating_sub(1),
         17 => (LEAST_BUFFER - 1) * count,
         18 => full.saturating_sub(LEAST_BUFFER),
