@@ -1,116 +1,17 @@
 //! One file: the library's answers and buffers against the plain machine's, call by call.
 
-use std::fmt::Debug;
-
 use crate::blade;
 use crate::generate::random::Random;
-use crate::generate::valid::bends::eggs;
-use crate::hexadecimal;
+use crate::generate::stations::random_station;
+use crate::pegs::compare_pegs;
+use crate::run::{refusal, Run};
 use crate::summary::Summary;
 use reference::blade::{neighbouring, Row};
 use reference::file::{read, Alignment, Refusal};
 use reference::limits::SPEEDS;
 use reference::machine::{self, Answer, PartAnswer};
 use reference::marks;
-use reference::{road, stations};
-
-fn refusal(refusal: voardusk::Refusal) -> Refusal {
-    Refusal {
-        number: i128::from(refusal.number()),
-        place: i128::from(refusal.place()),
-    }
-}
-
-/// The buffers of both sides; each call gets its own as the last one left it.
-struct Run<'f> {
-    file: &'f [u8],
-    library_buffer: Vec<u8>,
-    machine_buffer: Vec<u8>,
-}
-
-impl<'f> Run<'f> {
-    fn new(file: &'f [u8], buffer: Vec<u8>) -> Run<'f> {
-        Run {
-            file,
-            library_buffer: buffer.clone(),
-            machine_buffer: buffer,
-        }
-    }
-
-    /// Compares a call for one row; the line where it was not refused.
-    fn row(&mut self, station: u64, summary: &mut Summary) -> Result<Option<Vec<u8>>, String> {
-        summary.row_calls += 1;
-        let (library, line) = match voardusk::row(self.file, station, &mut self.library_buffer) {
-            Ok(line) => (Answer::Line(line.len()), Some(line.to_vec())),
-            Err(refused) => (Answer::Refused(refusal(refused)), None),
-        };
-        let machine = machine::row(self.file, station, &mut self.machine_buffer);
-        if let Answer::Refused(refused) = &machine {
-            summary.count_refused_call(refused.number);
-        }
-        let length = line.as_ref().map_or(0, Vec::len);
-        let same_line = line
-            .as_ref()
-            .is_none_or(|line| self.library_buffer.get(..length) == Some(line));
-        if library != machine || self.library_buffer != self.machine_buffer || !same_line {
-            let call = format!("row {station}");
-            return Err(self.difference(&call, &library, &machine));
-        }
-        Ok(line)
-    }
-
-    /// Compares a call for the next station; the machine's answer.
-    fn next_station(&mut self, station: u64, summary: &mut Summary) -> Result<Answer, String> {
-        summary.next_calls += 1;
-        let library = match voardusk::next_station(self.file, station) {
-            Ok(Some(next)) => Answer::Station(i128::from(next)),
-            Ok(None) => Answer::NoStation,
-            Err(refused) => Answer::Refused(refusal(refused)),
-        };
-        let machine = machine::next_station(self.file, station);
-        if let Answer::Refused(refused) = &machine {
-            summary.count_refused_call(refused.number);
-        }
-        if library != machine || self.library_buffer != self.machine_buffer {
-            let call = format!("next station {station}");
-            return Err(self.difference(&call, &library, &machine));
-        }
-        Ok(machine)
-    }
-
-    /// Compares a call for a part of the list; the machine's answer.
-    fn list(&mut self, station: u64, summary: &mut Summary) -> Result<PartAnswer, String> {
-        summary.list_calls += 1;
-        let (library, rows) = match voardusk::list(self.file, station, &mut self.library_buffer) {
-            Ok(part) => {
-                let next = part.next.map(i128::from);
-                let answer = PartAnswer::Rows(part.rows.len(), next);
-                (answer, part.rows.to_vec())
-            }
-            Err(refused) => (PartAnswer::Refused(refusal(refused)), Vec::new()),
-        };
-        let machine = machine::list(self.file, station, &mut self.machine_buffer);
-        if let PartAnswer::Refused(refused) = &machine {
-            summary.count_refused_call(refused.number);
-        }
-        let same_rows = self.library_buffer.get(..rows.len()) == Some(&rows);
-        if library != machine || self.library_buffer != self.machine_buffer || !same_rows {
-            let call = format!("list from {station}");
-            return Err(self.difference(&call, &library, &machine));
-        }
-        Ok(machine)
-    }
-
-    /// Says what differs after a call.
-    fn difference(&self, call: &str, library: &dyn Debug, machine: &dyn Debug) -> String {
-        format!(
-            "call: {call}\nthe library's answer: {library:?}\nthe machine's answer: {machine:?}\n\
-             the library's buffer: {}\nthe machine's buffer: {}",
-            hexadecimal::write(&self.library_buffer),
-            hexadecimal::write(&self.machine_buffer)
-        )
-    }
-}
+use reference::stations;
 
 fn random_buffer(random: &mut Random) -> Vec<u8> {
     let length = match random.place(16) {
@@ -124,74 +25,6 @@ fn random_buffer(random: &mut Random) -> Vec<u8> {
         _ => random.between(96, 300) as usize,
     };
     random.bytes(length)
-}
-
-/// Halfway between two crossfall points, along an element or, at a vertex, in a vertical curve:
-/// what changes evenly is often an exact half there.
-fn halfway(random: &mut Random, road: &Alignment) -> i128 {
-    let ends: Vec<i128> = match random.place(3) {
-        0 => road.points.iter().map(|point| point.station).collect(),
-        1 => road::element_starts(road),
-        _ => return random.pick(&road::tangent_starts(road)),
-    };
-    let place = random.place(ends.len() - 1);
-    (ends[place] + ends[place + 1]) / 2
-}
-
-/// A station where some number is often an exact half.
-fn half(random: &mut Random, road: &Alignment) -> i128 {
-    let on_egg = half_on_egg(random, road).filter(|_| random.chance(60));
-    on_egg.unwrap_or_else(|| halfway(random, road))
-}
-
-/// A station on an egg where curvature is an exact half, if there is one near a place drawn.
-fn half_on_egg(random: &mut Random, road: &Alignment) -> Option<i128> {
-    let eggs = eggs(&road.elements);
-    if eggs.is_empty() {
-        return None;
-    }
-    let egg = random.pick(&eggs);
-    let (first, last) = (road.elements[egg - 1].radius, road.elements[egg + 1].radius);
-    let length = road.elements[egg].length;
-    let is_half = |distance: &i128| {
-        let numerator = 2_000_000_000 * (last * (length - distance) + first * distance);
-        let denominator = first * last * length;
-        numerator % denominator == 0 && numerator / denominator % 2 != 0
-    };
-    let from = random.between(0, length);
-    let distance = (from..=length.min(from + 3_000)).find(is_half)?;
-    Some(road::element_starts(road)[egg] + distance)
-}
-
-fn random_station(random: &mut Random, road: Option<&Alignment>) -> u64 {
-    let end = road.map_or(100_000, Alignment::total_length);
-    let listed = |random: &mut Random| match road {
-        Some(road) => stations::next_station(road, random.between(0, end)).unwrap_or(end),
-        None => random.between(0, end),
-    };
-    let station = match random.place(20) {
-        0..=3 => listed(random),
-        4..=5 => listed(random) + 1,
-        6..=7 => (listed(random) - 1).max(0),
-        8..=11 => random.between(0, end),
-        12..=13 => road.map_or(end, |road| half(random, road)),
-        14 => 0,
-        15 => end,
-        16 => end + 1,
-        17 => end + random.between_by_size(1, 1 << 40),
-        18 => random.pick(&[
-            (1 << 31) - 1,
-            1 << 31,
-            (1 << 32) - 1,
-            1 << 32,
-            (1 << 63) - 1,
-            1 << 63,
-            (1 << 64) - 1,
-            (1 << 64) - 100_000,
-        ]),
-        _ => i128::from(random.next() >> random.place(64)),
-    };
-    u64::try_from(station).expect("a station of 64 bits")
 }
 
 /// A run of calls of the two routines, then the blade between its neighbouring rows.
@@ -383,6 +216,7 @@ pub fn compare_file(
     let compared = compare_run(random, &lent, road, summary)
         .and_then(|()| compare_lists(random, &lent, road, summary))
         .and_then(|()| compare_marks(&lent))
+        .and_then(|()| compare_pegs(random, &lent, road, summary))
         .and_then(|()| match lent == file {
             true => Ok(()),
             false => Err("the file itself was changed".to_string()),

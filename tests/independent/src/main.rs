@@ -9,6 +9,9 @@ mod halves;
 mod hexadecimal;
 mod limits_seen;
 mod marks;
+mod pegs;
+mod pegs_seen;
+mod run;
 mod summary;
 mod vectors;
 
@@ -25,6 +28,7 @@ use summary::Summary;
 const USAGE: &str = "independent [--files N] [--seed S] [--only KIND] [--index I] [--keep DIR]
 independent --vectors DIR
 independent --marks FILE
+independent --pegs FILE
 KIND is valid, designed, mixed, limit, broken, flipped, several, absurd or extreme.";
 
 struct Options {
@@ -33,9 +37,11 @@ struct Options {
     only: Option<FileKind>,
     index: Option<u64>,
     keep: Option<PathBuf>,
-    vectors: Option<PathBuf>,
-    marks: Option<PathBuf>,
+    stored: Option<(PathBuf, CheckStored)>,
 }
+
+/// Checks stored answers.
+type CheckStored = fn(&Path) -> std::io::Result<vectors::Checked>;
 
 impl Options {
     fn read(mut arguments: impl Iterator<Item = String>) -> Result<Options, String> {
@@ -45,12 +51,12 @@ impl Options {
             only: None,
             index: None,
             keep: None,
-            vectors: None,
-            marks: None,
+            stored: None,
         };
         while let Some(name) = arguments.next() {
             let value = arguments.next().ok_or(format!("{name} needs a value"))?;
             let number = || value.parse::<u64>().map_err(|_| format!("{name} {value}"));
+            let mut stored = |check| options.stored = Some((PathBuf::from(&value), check));
             match name.as_str() {
                 "--files" => options.files = number()?,
                 "--seed" => options.seed = number()?,
@@ -59,8 +65,9 @@ impl Options {
                     options.only = Some(kind_named(&value).ok_or(format!("unknown kind {value}"))?)
                 }
                 "--keep" => options.keep = Some(PathBuf::from(&value)),
-                "--vectors" => options.vectors = Some(PathBuf::from(&value)),
-                "--marks" => options.marks = Some(PathBuf::from(&value)),
+                "--vectors" => stored(vectors::check),
+                "--marks" => stored(vectors::check_marks),
+                "--pegs" => stored(vectors::check_pegs),
                 _ => return Err(format!("unknown option {name}")),
             }
         }
@@ -145,7 +152,7 @@ fn compare_all(options: &Options) -> Result<Summary, String> {
 }
 
 /// Tells how many of the stored answers agree.
-fn check_stored(path: &Path, check: fn(&Path) -> std::io::Result<vectors::Checked>) -> ExitCode {
+fn check_stored(path: &Path, check: CheckStored) -> ExitCode {
     match check(path) {
         Err(error) => {
             eprintln!("{}: {error}", path.display());
@@ -155,7 +162,7 @@ fn check_stored(path: &Path, check: fn(&Path) -> std::io::Result<vectors::Checke
             for (name, difference) in &differing {
                 println!("{name}: {difference}");
             }
-            println!("{} of {count} files agree", count - differing.len());
+            println!("{} of {count} cases agree", count - differing.len());
             ExitCode::from(u8::from(!differing.is_empty() || count == 0))
         }
     }
@@ -169,11 +176,8 @@ fn main() -> ExitCode {
             return ExitCode::from(2);
         }
     };
-    if let Some(directory) = &options.vectors {
-        return check_stored(directory, vectors::check);
-    }
-    if let Some(cases) = &options.marks {
-        return check_stored(cases, vectors::check_marks);
+    if let Some((path, check)) = &options.stored {
+        return check_stored(path, *check);
     }
     println!("seed {}", options.seed);
     match compare_all(&options) {

@@ -8,6 +8,7 @@ use crate::generate::{MadeFile, FILE_KINDS};
 use crate::halves::Halves;
 use crate::limits_seen::LimitsSeen;
 use crate::marks::MarksSeen;
+use crate::pegs_seen::PegsSeen;
 use reference::file::{read, Alignment, Refusal};
 use reference::marks::marks_of;
 
@@ -23,11 +24,12 @@ pub struct Summary {
     /// Files not turned away that have each feature.
     pub features: [u64; FEATURES.len()],
     /// By refusal number.
-    pub refused_files: [u64; 24],
-    pub refused_calls: [u64; 24],
+    pub refused_files: [u64; 25],
+    pub refused_calls: [u64; 25],
     pub limits: LimitsSeen,
     pub halves: Halves,
     pub marks: MarksSeen,
+    pub pegs: PegsSeen,
     pub row_calls: u64,
     pub next_calls: u64,
     pub list_calls: u64,
@@ -48,11 +50,12 @@ impl Summary {
             pair_of_kind: [0; FILE_KINDS.len()],
             accepted_of_kind: [0; FILE_KINDS.len()],
             features: [0; FEATURES.len()],
-            refused_files: [0; 24],
-            refused_calls: [0; 24],
+            refused_files: [0; 25],
+            refused_calls: [0; 25],
             limits: LimitsSeen::new(),
             halves: Halves::default(),
             marks: MarksSeen::new(),
+            pegs: PegsSeen::new(),
             row_calls: 0,
             next_calls: 0,
             list_calls: 0,
@@ -124,7 +127,7 @@ impl fmt::Display for Summary {
         let all = counts.map(|counts| counts.iter().sum());
         writeln!(to, "  {:<10} {}", "all", row(all))?;
         writeln!(to, "refusal     files     calls")?;
-        for number in 1..=23 {
+        for number in 1..=24 {
             let (files, calls) = (self.refused_files[number], self.refused_calls[number]);
             writeln!(to, "{number:>7} {files:>9} {calls:>9}")?;
         }
@@ -135,6 +138,7 @@ impl fmt::Display for Summary {
         }
         write!(to, "{}", self.halves)?;
         write!(to, "{}", self.marks)?;
+        write!(to, "{}", self.pegs)?;
         writeln!(to, "calls of row: {}", self.row_calls)?;
         writeln!(to, "calls of next station: {}", self.next_calls)?;
         writeln!(to, "calls of list: {}", self.list_calls)?;

@@ -1,14 +1,15 @@
-//! The reference against files with known answers.
+//! The reference, and of some routines the library, against known answers.
 
 use std::fs;
 use std::path::Path;
 
 use crate::hexadecimal;
+use crate::run::refusal;
 use reference::file::Refusal;
 use reference::machine::{self, Answer};
-use reference::marks;
+use reference::{marks, pegs};
 
-/// The count of files, and those that differ.
+/// The count of cases, and those that differ.
 pub type Checked = (usize, Vec<(String, String)>);
 
 /// Checks NNNN.in against NNNN.out and NNNN.run.
@@ -72,10 +73,20 @@ fn check_run(file: &[u8], run: &str) -> Result<(), String> {
 /// Checks the library and the reference against lines of a file in hexadecimal, ` = ` and its marks as a number, or the
 /// refusal.
 pub fn check_marks(cases: &Path) -> std::io::Result<Checked> {
+    check_lines(cases, check_marks_of)
+}
+
+/// Checks the library and the reference against lines of a file in hexadecimal, stations with commas, the buffer's
+/// length, ` = ` and the rows in hexadecimal, or the refusal.
+pub fn check_pegs(cases: &Path) -> std::io::Result<Checked> {
+    check_lines(cases, check_pegs_of)
+}
+
+fn check_lines(cases: &Path, check: fn(&str) -> Result<(), String>) -> std::io::Result<Checked> {
     let text = fs::read_to_string(cases)?;
     let mut differing = Vec::new();
     for (place, line) in text.lines().enumerate() {
-        if let Err(difference) = check_marks_of(line) {
+        if let Err(difference) = check(line) {
             differing.push((format!("line {}", place + 1), difference));
         }
     }
@@ -83,18 +94,64 @@ pub fn check_marks(cases: &Path) -> std::io::Result<Checked> {
 }
 
 fn check_marks_of(line: &str) -> Result<(), String> {
-    let (file, theirs) = line.split_once(" = ").ok_or("a line without an answer")?;
-    let no_bytes = file == "-";
-    let digits = if no_bytes { "" } else { file };
-    let file = hexadecimal::read(digits).ok_or("a file that is not hexadecimal")?;
-    let library = match voardusk::marks(&file) {
-        Ok(marks) => marks.number().to_string(),
-        Err(refusal) => refusal.to_string(),
-    };
-    let reference = match marks::marks(&file) {
-        Ok(marks) => marks.number().to_string(),
+    let ([file], theirs) = inputs_and_answer(line)?;
+    let file = bytes(file)?;
+    let library = voardusk::marks(&file).map_err(refusal);
+    let library = library.map(|marks| i128::from(marks.number()));
+    let reference = marks::marks(&file).map(|marks| marks.number());
+    let text = |answer: Result<i128, _>| answer.map_or_else(text_of, |number| number.to_string());
+    agree(theirs, &text(library), &text(reference))
+}
+
+fn check_pegs_of(line: &str) -> Result<(), String> {
+    let ([file, stations, room], theirs) = inputs_and_answer(line)?;
+    let file = bytes(file)?;
+    let pegs = numbers(stations)?;
+    let room = room.parse().map_err(|_| "a length that is no number")?;
+    let library = rows_in(room, |buffer| {
+        let rows = voardusk::pegs(&file, &pegs, buffer).map_err(refusal)?;
+        Ok(rows.len())
+    });
+    let reference = rows_in(room, |buffer| pegs::pegs(&file, &pegs, buffer));
+    agree(theirs, &library, &reference)
+}
+
+/// The inputs of a case, separated by spaces, and after ` = ` its answer.
+fn inputs_and_answer<const N: usize>(line: &str) -> Result<([&str; N], &str), String> {
+    let (inputs, answer) = line.split_once(" = ").ok_or("a line without an answer")?;
+    let inputs: Vec<&str> = inputs.split(' ').collect();
+    let inputs = inputs.try_into().map_err(|_| format!("not {N} inputs"))?;
+    Ok((inputs, answer))
+}
+
+/// The bytes of an input; `-` is none.
+fn bytes(input: &str) -> Result<Vec<u8>, String> {
+    let digits = if input == "-" { "" } else { input };
+    Ok(hexadecimal::read(digits).ok_or("bytes that are not hexadecimal")?)
+}
+
+/// Numbers with commas between them; `-` is none.
+fn numbers(input: &str) -> Result<Vec<u64>, String> {
+    let texts = input.split(',').filter(|_| input != "-");
+    let numbers = texts.map(|text| text.parse().map_err(|_| format!("{text} is no number")));
+    numbers.collect()
+}
+
+/// The rows that a call leaves in a buffer of so many bytes, or its refusal.
+fn rows_in(room: usize, call: impl FnOnce(&mut [u8]) -> Result<usize, Refusal>) -> String {
+    let lent: Vec<u8> = (0..room).map(|place| place as u8).collect();
+    let mut buffer = lent.clone();
+    let answer = call(&mut buffer);
+    let length = answer.unwrap_or(0);
+    match answer {
+        _ if buffer[length..] != lent[length..] => "a change beyond the rows".to_string(),
         Err(refusal) => text_of(refusal),
-    };
+        Ok(0) => "-".to_string(),
+        Ok(_) => hexadecimal::write(&buffer[..length]),
+    }
+}
+
+fn agree(theirs: &str, library: &str, reference: &str) -> Result<(), String> {
     match library == theirs && reference == theirs {
         true => Ok(()),
         false => Err(format!(

@@ -8,8 +8,10 @@ pub mod features;
 pub mod head;
 pub mod numbers;
 pub mod order;
+pub mod pegs;
 pub mod random;
 pub mod road;
+pub mod stations;
 pub mod valid;
 
 #[cfg(test)]

@@ -8,6 +8,7 @@ use super::edges::plan::change_kind;
 use super::edges::EDGES;
 use super::head::Head;
 use super::numbers::{file, numbers};
+use super::pegs::{joints, peg_list};
 use super::random::Random;
 use super::valid::bends::{eggs, kinds_run, pairs};
 use super::valid::speeds::road_of_any_speed;
@@ -19,6 +20,7 @@ use reference::file::{read, GREATEST_NUMBER};
 use reference::limits::{rule_book, RuleBook, SPEEDS};
 use reference::machine::accept;
 use reference::marks::{first_refusal_at, marks};
+use reference::pegs::pegs;
 use reference::rules::judge_all;
 
 #[test]
@@ -89,6 +91,25 @@ fn a_file_is_made_again_from_seed_and_index() {
         let make = || make_file(&mut Random::for_file(3, index), None).bytes;
         assert_eq!(make(), make());
     }
+}
+
+#[test]
+fn lists_of_pegs_are_answered_in_every_way() {
+    let mut counts = [0; 3];
+    for index in 0..3_000 {
+        let mut random = Random::for_file(37, index);
+        let head = Head::of_class(&mut random);
+        let road = road_of(&mut random, head);
+        let list = peg_list(&mut random, Some(&road), &joints(Some(&road)));
+        let answer = pegs(&file(&road), &list.pegs, &mut vec![0; list.room]);
+        counts[match answer.map_err(|refusal| refusal.number) {
+            Ok(_) => 0,
+            Err(20) => 1,
+            Err(24) => 2,
+            Err(number) => panic!("index {index}: {number}"),
+        }] += 1;
+    }
+    assert!(counts.iter().all(|&count| count > 400), "{counts:?}");
 }
 
 /// The generator's own word on the kinds against the reference's.
