@@ -16,10 +16,6 @@ joined-append f [] ys = refl
 joined-append f (x ∷ xs) ys = ap (λ (l : List ℕ). f x ++ l) (joined-append f xs ys) ∙ sym (append-assoc (f x) (joined f xs) (joined f ys))
 
 module _ (r : Road) (pegs : List ℕ) where
-  pub no-lines : lines r (take 0 pegs) ≡ []
-  unfolding lines joined
-  no-lines = refl
-
   -- the row of peg i behind those of the pegs before it
   pub one-line : (i : ℕ) → i < length pegs → lines r (take (i + 1) pegs) ≡ lines r (take i pegs) ++ line r (pegAt pegs i)
   unfolding lines joined
@@ -28,3 +24,7 @@ module _ (r : Road) (pegs : List ℕ) where
       ∙ ap (joined (line r)) (take-suc pegs i 0 h)
       ∙ joined-append (line r) (take i pegs) (pegAt pegs i ∷ [])
       ∙ ap (λ (l : List ℕ). joined (line r) (take i pegs) ++ l) (append-nil (line r (pegAt pegs i)))
+
+  pub no-lines : lines r (take 0 pegs) ≡ []
+  unfolding lines joined
+  no-lines = refl

@@ -1,11 +1,11 @@
 -- The first bad peg, as it is searched for; where there is none, all pegs are good.
-use Prim.Native.Nat.{ℕ, suc, _≤_, _<_}
+use Prim.Native.Nat.{ℕ, zero, suc, _≤_, _<_}
 use mathlib.Core.Path.{_≡_, refl, sym, ap, _∙_}
 use mathlib.Core.Bool.{Bool, true, false, _||_}
 use mathlib.Core.List.{List}
 use mathlib.Core.Option.{Option, none, some}
 use native.Mathlib.Omega.{arith}
-use borrow.Author.Tests.{ltb-false, leb-true, leb-false}
+use borrow.Author.Tests.{le-ltb, ltb-false, lt-leb, leb-true, leb-false}
 use lib.ListN.{length}
 use lib.Dec.{leb, ltb}
 use Rattle.laws_of_lists.specs.Tests.{or-left, or-right}
@@ -74,3 +74,13 @@ module _ (T : ℕ) (pegs : List ℕ) where
       rises = λ i h. ltb-false (pegAt pegs (suc i)) (pegAt pegs i) (or-left (ltb (pegAt pegs (suc i)) (pegAt pegs i)) (leb 2000 (suc i)) (or-left (falls pegs (suc i) || leb 2000 (suc i)) (ltb T (pegAt pegs (suc i))) (not-bad (suc i) h)));
       within = λ i h. ltb-false T (pegAt pegs i) (or-right (falls pegs i || leb 2000 i) (ltb T (pegAt pegs i)) (not-bad i h));
     }
+
+  -- and the other way: pegs that are good are all taken
+  good-there : Good T pegs → (i : ℕ) → i < length pegs → isBad T pegs i ≡ false
+  unfolding isBad falls
+  good-there g zero h = rw (lt-leb 2000 0 (omega arith), le-ltb T (pegAt pegs 0) (g .within 0 h))
+  good-there g (suc i) h = rw (le-ltb (pegAt pegs (suc i)) (pegAt pegs i) (g .rises i h), lt-leb 2000 (suc i) (omega (arith, g .few)), le-ltb T (pegAt pegs (suc i)) (g .within (suc i) h))
+
+  pub good-none : Good T pegs → firstBad T pegs ≡ none
+  unfolding firstBad
+  good-none g = first-clear (isBad T pegs) (length pegs) (good-there g)

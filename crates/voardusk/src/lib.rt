@@ -109,7 +109,12 @@ pub extern "C" fn voardusk_marks(file: &[u8], answer: &mut u64) -> u32
 
 // The rows of the pegs one behind another over the first bytes of the buffer, their total length in `answer`.
 #[no_mangle]
-pub extern "C" fn voardusk_pegs(file: &[u8], stations: &[u64], out: &mut [u8], answer: &mut u64) -> u32
+pub extern "C" fn voardusk_pegs(
+    file: &[u8],
+    stations: &[u64],
+    out: &mut [u8],
+    answer: &mut u64,
+) -> u32
     ensures { λ r. ⌜ r ≡ returnedNumber (pegsAnswer (now (file .entry)) (now (stations .entry)) (length (now (out .entry)))) ⌝ }
     ensures { λ _. ⌜ now (answer .exit) ≡ answerNumber (pegsAnswer (now (file .entry)) (now (stations .entry)) (length (now (out .entry)))) ⌝ }
     ensures { λ _. ⌜ now (out .exit) ≡ pegsBuffer (now (file .entry)) (now (stations .entry)) (now (out .entry)) ⌝ }
@@ -119,8 +124,8 @@ pub extern "C" fn voardusk_pegs(file: &[u8], stations: &[u64], out: &mut [u8], a
             *answer = place as u64;
             number
         }
-        RowAnswer::Length(length) => {
-            *answer = length as u64;
+        RowAnswer::Length(total) => {
+            *answer = total as u64;
             0
         }
     }
