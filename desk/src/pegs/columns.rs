@@ -30,11 +30,14 @@ impl Columns {
             return wrong(words::OPEN_QUOTE, &[]);
         };
         let is_head = !cells.iter().any(|cell| station::may_be_number(cell));
-        let of_cell = match is_head {
-            true => |cell: &[u8]| station::unit(cell),
-            false => |cell: &[u8]| station::may_be_number(cell).then_some(Unit::Unnamed),
+        let has_commas = separator == Some(b',');
+        let may_be_station = |cell: &[u8]| {
+            station::may_be_number(cell) || has_commas && station::ends_in_number(cell)
         };
-        let units = cells.iter().map(|cell| of_cell(cell));
+        let units = cells.iter().map(|cell| match is_head {
+            true => station::unit(cell),
+            false => may_be_station(cell).then_some(Unit::Unnamed),
+        });
         let found: Vec<(usize, Unit)> = (0..).zip(units).filter_map(named).collect();
         match found[..] {
             [] => wrong(words::NO_COLUMN, &[&seen(line)]),

@@ -47,6 +47,13 @@ pub fn may_be_number(cell: &[u8]) -> bool {
     has_plus || unsigned.starts_with(char::is_numeric)
 }
 
+/// Whether a cell is words and a whole number behind them, as `St. 95` of `St. 95,850`: the comma may begin decimals.
+pub fn ends_in_number(cell: &[u8]) -> bool {
+    let cell = String::from_utf8_lossy(cell);
+    let last = cell.split_whitespace().skip(1).last();
+    last.is_some_and(|word| word.chars().all(char::is_numeric))
+}
+
 /// A cell as `row` takes a station; in a column of metres as if m stood behind a number that has no unit.
 pub fn station(cell: &[u8], unit: Unit) -> Option<u64> {
     let word = std::str::from_utf8(cell).ok()?.trim();
@@ -133,6 +140,18 @@ mod tests {
         for cell in ["", "P1", "left", "K-3", "km", "offset +/-", "#1"] {
             assert!(!may_be_number(cell.as_bytes()), "{cell}");
         }
+    }
+
+    #[test]
+    fn words_before_a_number() {
+        assert!(["St. 95", "St 95", "left peg 12"]
+            .map(str::as_bytes)
+            .into_iter()
+            .all(ends_in_number));
+        assert!(!["", "95", "P1", "St", "12 left", "St 95a"]
+            .map(str::as_bytes)
+            .into_iter()
+            .any(ends_in_number));
     }
 
     #[test]

@@ -127,6 +127,7 @@ fn metres_without_a_unit() {
         "95,850 m",
         "1,0+095.850",
         "95'850,12",
+        "St. 95,850",
     ] {
         let several = "line 1: columns 1 and 2 may both be the station: a head line has to name it";
         assert!(wrong(text).starts_with(several), "{text}");
