@@ -131,13 +131,6 @@ fn how_often(kind: u8, first: u8, second: u8) -> usize
     if kind == b's' { 2000 * n } else { n }
 }
 
-// The listing program's parts have 128 KB; the rows of 2,000 pegs ask for 96 bytes each.
-fn room_of(kind: u8) -> usize
-    ensures { λ r. ⌜ r ≤ 192000 ⌝ }
-{
-    if kind == b'l' { 131072 } else { 192000 }
-}
-
 // The pegs are computed once, before the calls.
 fn print_answer(kind: u8, count: usize, file: &mut [u8])
     requires { ⌜ 3 ≤ length (now file) ⌝ ∗ ⌜ count ≤ 1000000000 ⌝ }
@@ -148,8 +141,7 @@ fn print_answer(kind: u8, count: usize, file: &mut [u8])
     if kind == b'p' {
         print_rows(file, &stations, &mut out);
     } else {
-        let room = room_of(kind);
-        print_sum(calls(kind, count, file, &stations, &mut out[..room]));
+        print_sum(calls(kind, count, file, &stations, &mut out));
     }
 }
 

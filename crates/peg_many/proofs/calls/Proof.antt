@@ -22,5 +22,5 @@ loop-again c = (search needs, search needs, search needs)
 pub calls-spec : {M : Type 1} → statement M
 calls-spec =
     tie.close
-    (tie.spec Inv-loop μ-loop (λ c. search needs) call-requires (λ c _. search needs) (λ c. search needs) (λ c _. search needs) (λ c. search needs) (λ c. search needs) (λ c. search needs)
+    (tie.spec Inv-loop μ-loop (λ c. search needs) call-requires (λ c _. tt) (λ c. search needs) (λ c _. tt) (λ c. search needs) (λ c. search needs) (λ c. search needs)
     loop-again (λ c. search needs) (λ c. search needs) (λ c. search needs))

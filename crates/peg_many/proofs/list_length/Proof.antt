@@ -9,4 +9,4 @@ road-length-requires c κs = let r = c .before .before .before .before .accept i
 
 pub list-length-spec : {M : Type 1} → statement M
 list-length-spec =
-    tie.close (tie.spec (λ c _. search needs) (λ c. search needs) (λ c. search needs) road-length-requires (λ c. search needs) (λ c. search needs) (λ c. search needs))
+    tie.close (tie.spec (λ c _. tt) (λ c. search needs) (λ c. search needs) road-length-requires (λ c. search needs) (λ c. search needs) (λ c. search needs))

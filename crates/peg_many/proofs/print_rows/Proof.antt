@@ -13,5 +13,5 @@ slice-aggregate-write-all c = sym (length-take-le _ _ (slice-reshare-prefix-writ
 pub print-rows-spec : {M : Type 1} → statement M
 print-rows-spec =
     tie.close
-    (tie.spec (λ c _. search needs) (λ c _. search needs) (λ c. search needs) slice-reshare-prefix-write-all slice-aggregate-write-all (λ c _. search needs) (λ c. search needs) (λ c. search needs)
+    (tie.spec (λ c _. tt) (λ c _. tt) (λ c. search needs) slice-reshare-prefix-write-all slice-aggregate-write-all (λ c _. tt) (λ c. search needs) (λ c. search needs)
     (λ c. search needs) (λ c. search needs))

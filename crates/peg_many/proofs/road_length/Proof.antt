@@ -14,5 +14,5 @@ abbrev μ-loop : tie.MeasureT-loop
 pub road-length-spec : {M : Type 1} → statement M
 road-length-spec =
     tie.close
-    (tie.spec Inv-loop μ-loop (λ c. search needs) (λ c _. search needs) (λ c _. search needs) (λ c _. search needs) (λ c. search needs) (λ c. search needs) (λ c. search needs) (λ c. search needs)
+    (tie.spec Inv-loop μ-loop (λ c. search needs) (λ c _. search needs) (λ c _. tt) (λ c _. tt) (λ c. search needs) (λ c. search needs) (λ c. search needs) (λ c. search needs)
     (λ c. search needs) (λ c. search needs) (λ c. search needs) (λ c. search needs) (λ c. search needs))
