@@ -29,11 +29,8 @@ use Rattle.segment_parts.specs.Profiles.{piece-later}
 use Rattle.segment_parts.specs.declared.Curvature.{Curvature}
 use Rattle.segment_parts.specs.declared.Sides.{Sides}
 use Rattle.segment_parts.specs.declared.TangentPlace.{TangentPlace}
-use Rattle.cursors.specs.declared.ElementPlace.{ElementPlace}
-use Rattle.cursors.specs.declared.ProfilePlace.{ProfilePlace}
-use Rattle.cursors.specs.declared.CrossfallPlace.{CrossfallPlace}
 use Rattle.cursors.specs.declared.Place.{Place}
-use Rattle.cursors.specs.Places.{Reached, ElementReached, ElementFound, TangentReached, ProfileReached, ProfileFound, CrossfallReached, CrossfallFound, PlaceReached, PlaceFound}
+use Rattle.cursors.specs.Places.{Reached, ElementFound, TangentReached, CrossfallFound, PlaceReached, PlaceFound}
 
 -- ---- one cursor: where the next item does not begin at or before x, the last one is found
 pub reached-ends : {f : ℕ → ℕ} {n x i : ℕ} → Reached f n x i → (suc i < n → x < f (suc i)) → Begun f n x i

@@ -7,7 +7,6 @@ use lib.ListN.{length, replicate}
 use Rattle.file_numbers.specs.Reading.{got}
 use Rattle.integers.specs.Fraction.{_-ᶠ_, size, _≤ᶠ_}
 use Rattle.decimal.specs.Decimal.{numberIn}
-use Rattle.road.specs.Base.{joined}
 use Rattle.road.specs.File.{Road}
 use Rattle.road.specs.Exact.{Side, total, edge}
 use Rattle.road.specs.Line.{line}
@@ -20,7 +19,7 @@ use Rattle.laws_of_stations.specs.Visits.{rowAt, overwrite-room, row-first}
 use Rattle.laws_of_blade.specs.Demand.{demand-3}
 use Rattle.pegs.specs.Pegs.{pegAt, pegsAnswer}
 use Rattle.laws_of_pegs.specs.Text.{lineOf}
-use Rattle.laws_of_pegs.specs.SingleCalls.{Answered, answered, single, single-is, text, peg-line}
+use Rattle.laws_of_pegs.specs.SingleCalls.{answered, single-is, text, peg-line}
 
 -- the run of single calls
 abbrev pub singleCalls : (pegs : List ℕ) → List Call

@@ -1,5 +1,5 @@
 -- The listed stations of a road as pegs: they are taken where there are no more than 2,000, their rows are the list, and each two successive ones are neighbouring.
-use mathlib.Core.Path.{_≡_, ap, _∙_}
+use mathlib.Core.Path.{_≡_, ap}
 use mathlib.Core.List.{List}
 use Prim.Native.Nat.{ℕ, suc, _*_, _≤_, _<_}
 use native.Mathlib.Omega.{arith}

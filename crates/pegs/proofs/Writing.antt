@@ -1,7 +1,7 @@
 -- What was written so far, and the view that serves the next peg. In one turn a peg's row is written.
 use mathlib.Core.Path.{_≡_, sym, ap, _∙_, subst}
-use mathlib.Core.List.{List, [], _++_}
-use Prim.Native.Nat.{ℕ, suc, _+_, _*_, _≤_, _<_}
+use mathlib.Core.List.{List}
+use Prim.Native.Nat.{ℕ, _+_, _*_, _≤_, _<_}
 use native.Mathlib.Omega.{arith}
 use native.Mathlib.Numerals.{add-one}
 use lib.ListN.{length, take}
@@ -9,7 +9,6 @@ use lib.Seq.{take-length}
 use Rattle.decimal.specs.Written.{Wrote, wrote-none, wrote-append, wrote-length}
 use Rattle.road.specs.File.{Road}
 use Rattle.road.specs.Exact.{total}
-use Rattle.road.specs.Line.{line}
 use Rattle.segment.specs.Segment.{Shows, lineIn}
 use Rattle.segment.specs.Line.{line-shows}
 use Rattle.cursors.specs.Places.{PlaceReached}

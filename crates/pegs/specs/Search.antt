@@ -9,7 +9,7 @@ use borrow.Author.Tests.{le-ltb, ltb-false, lt-leb, leb-true, leb-false}
 use lib.ListN.{length}
 use lib.Dec.{leb, ltb}
 use Rattle.laws_of_lists.specs.Tests.{or-left, or-right}
-use Rattle.laws_of_search.specs.Searches.{FirstAt, first-some, first-none, first-clear, first-at-some}
+use Rattle.laws_of_search.specs.Searches.{first-some, first-none, first-clear, first-at-some}
 use Rattle.pegs.specs.Pegs.{pegAt, falls, isBad, firstBad}
 
 -- the place found; how many pegs there are where none is

@@ -1,7 +1,7 @@
 -- The point stays at or before x; the loop ends where the next one lies beyond it, or is the road's last.
 use mathlib.Core.Bool.{true, _&&_}
-use mathlib.Core.Path.{_≡_, refl, ap}
-use Prim.Native.Nat.{suc, _+_, _-_, _≤_, _<_}
+use mathlib.Core.Path.{_≡_, refl}
+use Prim.Native.Nat.{_+_, _-_, _≤_, _<_}
 use native.Mathlib.Omega.{arith}
 use borrow.Author.Needs.{needs}
 use lib.Dec.{leb, ltb}

@@ -1,4 +1,4 @@
-use mathlib.Core.Path.{sym, ap, _∙_}
+use mathlib.Core.Path.{sym, ap}
 use mathlib.Core.Bool.{Bool}
 use borrow.Author.Needs.{needs}
 use Rattle.road.specs.Base.{if_then_else_}

@@ -1,4 +1,4 @@
-use mathlib.Core.Path.{_≡_, sym, ap, _∙_}
+use mathlib.Core.Path.{_≡_, ap}
 use mathlib.Core.List.{List}
 use Prim.Native.Nat.{ℕ, zero, suc, _-_, _<_}
 use native.Mathlib.Omega.{arith}

@@ -1,7 +1,6 @@
 -- Refusal 20, refusal 24, or the rows: the tests are those of the definition, with T as the road holds it.
 use mathlib.Core.Path.{_≡_, ap, _∙_}
 use Prim.Native.Nat.{ℕ, _*_, _≤_}
-use native.Mathlib.Omega.{arith}
 use borrow.Author.Needs.{needs}
 use denote.Ref.{now}
 use lib.ListN.{length}
