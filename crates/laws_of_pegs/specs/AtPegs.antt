@@ -19,7 +19,7 @@ pub record Case : Type 0 where
 abbrev pub case : (from pegs : List ℕ) (room : ℕ) → Answer → Case
 case from pegs room answer = record { from = from; pegs = pegs; room = room; answer = answer }
 
--- the sample road ends at 200,000; its lines are 45 to 50 bytes long
+-- the sample road ends at 200,000; its lines are 45 to 51 bytes long
 abbrev pub cases : List Case
 cases =
     -- "0 for no pegs"
