@@ -7,7 +7,7 @@ use Rattle.road.specs.Compute.{computed}
 use Rattle.road.specs.Machine.{Answer, refusal, wrote}
 use Rattle.road.specs.Sample.{file}
 use Rattle.road.specs.Text.{printedLine}
-use Rattle.pegs.specs.Pegs.{falls, isBad, firstBad, lines, pegsAnswer, pegsBuffer}
+use Rattle.peg_list.specs.Pegs.{falls, isBad, firstBad, lines, pegsAnswer, pegsBuffer}
 
 -- a file, pegs, the buffer's length, and the answer
 pub record Case : Type 0 where

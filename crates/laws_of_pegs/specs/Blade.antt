@@ -17,7 +17,7 @@ use Rattle.road.specs.Demand.{Row, rowsOf, edgeNumber, BladeClose}
 use Rattle.laws_of_search.specs.Members.{item-has}
 use Rattle.laws_of_stations.specs.Visits.{rowAt, overwrite-room, row-first}
 use Rattle.laws_of_blade.specs.Demand.{demand-3}
-use Rattle.pegs.specs.Pegs.{pegAt, pegsAnswer}
+use Rattle.peg_list.specs.Pegs.{pegAt, pegsAnswer}
 use Rattle.laws_of_pegs.specs.Text.{lineOf}
 use Rattle.laws_of_pegs.specs.SingleCalls.{answered, single-is, text, peg-line}
 

@@ -20,8 +20,8 @@ use Rattle.laws_of_search.specs.Ascends.{ascending-all}
 use Rattle.laws_of_acceptance.specs.Positive.{Accepted, accepted-road, facts}
 use Rattle.laws_of_stations.specs.Stations.{stations-inside, listed-strictly}
 use Rattle.laws_of_blade.specs.Neighbours.{listed-neighbouring}
-use Rattle.pegs.specs.Pegs.{pegAt, lines, pegsAnswer}
-use Rattle.pegs.specs.Search.{Good}
+use Rattle.peg_list.specs.Pegs.{pegAt, lines, pegsAnswer}
+use Rattle.peg_list.specs.Search.{Good}
 use Rattle.laws_of_pegs.specs.Text.{lineOf}
 use Rattle.laws_of_pegs.specs.SingleCalls.{good-answered, text}
 use Rattle.laws_of_pegs.specs.Blade.{pegs-blade}

@@ -12,8 +12,8 @@ use lib.ListN.{length, take, replicate, length-replicate, getD-replicate, replic
 use lib.Seq.{getD-take, length-take-le, take-at}
 use Rattle.laws_of_lists.specs.Tests.{or-true}
 use Rattle.laws_of_search.specs.Searches.{FirstAt, first-some, first-none, first-at-some}
-use Rattle.pegs.specs.Pegs.{pegAt, falls, isBad, firstBad}
-use Rattle.pegs.specs.Search.{Good, good, good-none}
+use Rattle.peg_list.specs.Pegs.{pegAt, falls, isBad, firstBad}
+use Rattle.peg_list.specs.Search.{Good, good, good-none}
 
 -- all are taken exactly where they are good
 pub taken-iff : (T : ℕ) (pegs : List ℕ) → (firstBad T pegs ≡ none) ↔ Good T pegs

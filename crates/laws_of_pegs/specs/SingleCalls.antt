@@ -17,9 +17,9 @@ use Rattle.road.specs.Line.{line}
 use Rattle.road.specs.Rules.{accepted}
 use Rattle.road.specs.Machine.{Answer, refusal, wrote, station, noStation, overwrite, rowOn, bufferOn, rowAnswer, rowBuffer}
 use Rattle.laws_of_lines.specs.Buffer.{past-line}
-use Rattle.pegs.specs.Pegs.{pegAt, firstBad, lines, rowsOr24, pegsOn, pegsAnswer, pegsBuffer}
-use Rattle.pegs.specs.Search.{Good, good, good-none}
-use Rattle.pegs.specs.Answers.{pegs-written, pegs-accepted}
+use Rattle.peg_list.specs.Pegs.{pegAt, firstBad, lines, rowsOr24, pegsOn, pegsAnswer, pegsBuffer}
+use Rattle.peg_list.specs.Search.{Good, good, good-none}
+use Rattle.peg_list.specs.Answers.{pegs-written, pegs-accepted}
 use Rattle.laws_of_pegs.specs.Text.{lineOf, line-of}
 
 -- the bytes that a row call has left, up to the length that it answers

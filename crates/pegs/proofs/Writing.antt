@@ -14,9 +14,9 @@ use Rattle.segment.specs.Line.{line-shows}
 use Rattle.cursors.specs.Places.{PlaceReached}
 use Rattle.cursors.specs.View.{Viewed, viewed-later}
 use Rattle.cursors.specs.declared.View.{View}
-use Rattle.pegs.specs.Pegs.{pegAt, lines}
-use Rattle.pegs.specs.Search.{Good}
-use Rattle.pegs.specs.Rows.{no-lines, one-line}
+use Rattle.peg_list.specs.Pegs.{pegAt, lines}
+use Rattle.peg_list.specs.Search.{Good}
+use Rattle.peg_list.specs.Rows.{no-lines, one-line}
 
 -- a view that may be moved on to x, and up to its joint is that of x
 pub record Serves (r : Road) (v : View) (x : ℕ) : Type 0 where

@@ -1,53 +1,16 @@
 // Request A.5: the rows of a list of pegs, in one walk along the three lists of an accepted road.
 ghost use mathlib.Core.Path.{_≡_};
-ghost use Prim.Native.Nat.{_*_, _≤_, _<_};
+ghost use Prim.Native.Nat.{_*_, _≤_};
 ghost use lib.ListN.{length};
 ghost use Rattle.road.specs.Exact.{total};
 ghost use Rattle.road.specs.Held.{roadIn};
 ghost use Rattle.road.specs.Machine.{ofRow, overwrite};
 ghost use Rattle.cursors.specs.Places.{RoadReady};
-ghost use Rattle.pegs.specs.Pegs.{falls, isBad, firstBad, lines, pegsOf, bufferOf, pegsAnswer, pegsBuffer};
-ghost use Rattle.pegs.specs.Search.{orCount, Good};
+ghost use Rattle.peg_list.specs.Pegs.{lines, pegsOf, bufferOf, pegsAnswer, pegsBuffer};
+ghost use Rattle.peg_list.specs.Search.{Good};
 use acceptance::Outcome;
 use road::AcceptedRoad;
 use road::RowAnswer;
-
-// A list has no more pegs than this.
-const PEG_COUNT: usize = 2000;
-
-// Whether a peg lies below the one before it.
-fn falls_at(stations: &[u64], i: usize) -> bool
-    requires { ⌜ i < length (now stations) ⌝ }
-    ensures { λ r. ⌜ r ≡ falls (now (stations .entry)) i ⌝ }
-{
-    if i == 0 {
-        return false;
-    }
-    let before = i - 1;
-    stations[i] < stations[before]
-}
-
-// Whether a peg lies below the one before it, is one too many, or lies beyond T.
-fn is_bad(stations: &[u64], i: usize, end: u64) -> bool
-    requires { ⌜ i < length (now stations) ⌝ }
-    ensures { λ r. ⌜ r ≡ isBad end (now (stations .entry)) i ⌝ }
-{
-    (falls_at(stations, i) | (PEG_COUNT <= i)) | (end < stations[i])
-}
-
-// The first bad peg; how many pegs there are where none is bad.
-fn first_bad(stations: &[u64], end: u64) -> usize
-    ensures { λ r. ⌜ r ≡ orCount (now (stations .entry)) (firstBad end (now (stations .entry))) ⌝ }
-{
-    let mut i: usize = 0;
-    while i < stations.len() {
-        if is_bad(stations, i, end) {
-            return i;
-        }
-        i += 1;
-    }
-    i
-}
 
 // The rows of pegs that are all good, from the start of the buffer on; their length. The place on the three lists moves forward only, and a segment
 // serves all pegs up to its joint.
@@ -83,7 +46,7 @@ fn rows_in(road: AcceptedRoad, stations: &[u64], out: &mut [u8]) -> RowAnswer
     if out.len() / 96 < stations.len() {
         return RowAnswer::Refused(20, 0);
     }
-    let bad = first_bad(stations, road.total);
+    let bad = peg_list::first_bad(stations, road.total);
     if bad < stations.len() {
         return RowAnswer::Refused(24, bad);
     }

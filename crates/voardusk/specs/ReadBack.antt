@@ -28,7 +28,7 @@ use Rattle.walk.specs.declared.Onward.{Onward}
 use Rattle.walk.specs.declared.Onward.the-variants as onwards
 use Rattle.listing.specs.Chunks.{Listed, turnedAway, part, listOn, listAnswer}
 use Rattle.speed_marks.specs.Marks as speeds
-use Rattle.pegs.specs.Pegs.{firstBad, rowsOr24, pegsOn, pegsAnswer}
+use Rattle.peg_list.specs.Pegs.{firstBad, rowsOr24, pegsOn, pegsAnswer}
 use Rattle.voardusk.specs.Codes.{markForNone, returnedNumber, answerNumber, listReturnedNumber, listAnswerNumber, listNextNumber, marksReturnedNumber, marksAnswerNumber}
 
 -- ---- what a caller reads from the numbers

@@ -6,7 +6,7 @@ ghost use lib.ListN.{length};
 ghost use Rattle.road.specs.Machine.{rowAnswer, rowBuffer, nextAnswer};
 ghost use Rattle.listing.specs.Chunks.{listAnswer, listBuffer};
 ghost use Rattle.speed_marks.specs.Marks.{marksAnswer};
-ghost use Rattle.pegs.specs.Pegs.{pegsAnswer, pegsBuffer};
+ghost use Rattle.peg_list.specs.Pegs.{pegsAnswer, pegsBuffer};
 ghost use Rattle.voardusk.specs.Codes.{returnedNumber, answerNumber, listReturnedNumber, listAnswerNumber, listNextNumber, marksReturnedNumber, marksAnswerNumber};
 use listing::ListAnswer;
 use road::NextAnswer;

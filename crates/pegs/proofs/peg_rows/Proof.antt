@@ -1,7 +1,7 @@
 use borrow.Author.Needs.{needs}
 use Rattle.acceptance.specs.Acceptance.{taken, refused-by}
 use Rattle.stationing.specs.Routines.{ready}
-use Rattle.pegs.specs.Answers.{pegs-accepted, pegs-refused}
+use Rattle.peg_list.specs.Answers.{pegs-accepted, pegs-refused}
 use Rattle.pegs.proofs.peg_rows.Statement.{statement}
 use Rattle.pegs.proofs.peg_rows.Tie as tie
 

@@ -12,7 +12,7 @@ use Rattle.road.specs.Held.{roadIn}
 use Rattle.cursors.specs.View.{Viewed}
 use Rattle.cursors.specs.declared.View.{View}
 use Rattle.stationing.specs.Routines.{overwritten}
-use Rattle.pegs.specs.Pegs.{pegAt}
+use Rattle.peg_list.specs.Pegs.{pegAt}
 use Rattle.pegs.proofs.Writing.{Writing, writing-starts, writing-length, writing-more, writing-done, shown-there}
 use Rattle.pegs.proofs.put_rows.Statement.{statement}
 use Rattle.pegs.proofs.put_rows.Tie as tie

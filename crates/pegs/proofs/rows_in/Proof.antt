@@ -7,9 +7,9 @@ use lib.ListN.{length}
 use Rattle.road.specs.Exact.{total}
 use Rattle.road.specs.Held.{roadIn}
 use Rattle.road.specs.Machine.{wrote}
-use Rattle.pegs.specs.Pegs.{firstBad}
-use Rattle.pegs.specs.Search.{orCount, bad-is, good-is, good}
-use Rattle.pegs.specs.Answers.{too-short, long-enough, pegs-short, pegs-bad, pegs-written}
+use Rattle.peg_list.specs.Pegs.{firstBad}
+use Rattle.peg_list.specs.Search.{orCount, bad-is, good-is, good}
+use Rattle.peg_list.specs.Answers.{too-short, long-enough, pegs-short, pegs-bad, pegs-written}
 use Rattle.pegs.proofs.rows_in.Statement.{statement}
 use Rattle.pegs.proofs.rows_in.Tie as tie
 

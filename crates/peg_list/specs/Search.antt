@@ -10,7 +10,7 @@ use lib.ListN.{length}
 use lib.Dec.{leb, ltb}
 use Rattle.laws_of_lists.specs.Tests.{or-left, or-right}
 use Rattle.laws_of_search.specs.Searches.{first-some, first-none, first-clear, first-at-some}
-use Rattle.pegs.specs.Pegs.{pegAt, falls, isBad, firstBad}
+use Rattle.peg_list.specs.Pegs.{pegAt, falls, isBad, firstBad}
 
 -- the place found; how many pegs there are where none is
 abbrev pub orCount : List ℕ → Option ℕ → ℕ

@@ -8,10 +8,10 @@ use native.Mathlib.Decide.{ℕ-discrete}
 use borrow.Author.Needs.{needs}
 use denote.Ref.{now}
 use lib.ListN.{length}
-use Rattle.pegs.specs.Pegs.{isBad}
-use Rattle.pegs.specs.Search.{NoneBefore, bad-found, none-bad}
-use Rattle.pegs.proofs.first_bad.Statement.{statement}
-use Rattle.pegs.proofs.first_bad.Tie as tie
+use Rattle.peg_list.specs.Pegs.{isBad}
+use Rattle.peg_list.specs.Search.{NoneBefore, bad-found, none-bad}
+use Rattle.peg_list.proofs.first_bad.Statement.{statement}
+use Rattle.peg_list.proofs.first_bad.Tie as tie
 
 abbrev Inv-loop : tie.InvT-loop
 Inv-loop stations end i₀ i = NoneBefore end stations i × (i ≤ length stations)

@@ -5,9 +5,9 @@ use native.Mathlib.Omega.{arith}
 use borrow.Author.Needs.{needs}
 use lib.Dec.{ltb}
 use denote.Ref.{now}
-use Rattle.pegs.specs.Pegs.{pegAt, falls}
-use Rattle.pegs.proofs.falls_at.Statement.{statement}
-use Rattle.pegs.proofs.falls_at.Tie as tie
+use Rattle.peg_list.specs.Pegs.{pegAt, falls}
+use Rattle.peg_list.proofs.falls_at.Statement.{statement}
+use Rattle.peg_list.proofs.falls_at.Tie as tie
 
 falls-is : (pegs : List ℕ) (i : ℕ) → 0 < i → ltb (pegAt pegs i) (pegAt pegs (i - 1)) ≡ falls pegs i
 unfolding falls

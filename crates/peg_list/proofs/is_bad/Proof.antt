@@ -3,9 +3,9 @@ use mathlib.Core.Bool.{Bool, _||_}
 use borrow.Author.Needs.{needs}
 use lib.Dec.{leb, ltb}
 use denote.Ref.{now}
-use Rattle.pegs.specs.Pegs.{pegAt, isBad}
-use Rattle.pegs.proofs.is_bad.Statement.{statement}
-use Rattle.pegs.proofs.is_bad.Tie as tie
+use Rattle.peg_list.specs.Pegs.{pegAt, isBad}
+use Rattle.peg_list.proofs.is_bad.Statement.{statement}
+use Rattle.peg_list.proofs.is_bad.Tie as tie
 
 returns : tie.Need-returns
 unfolding isBad

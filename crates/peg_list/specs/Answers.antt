@@ -12,7 +12,7 @@ use Rattle.road.specs.File.{Road}
 use Rattle.road.specs.Exact.{total}
 use Rattle.road.specs.Rules.{accepted}
 use Rattle.road.specs.Machine.{Answer, refusal, wrote, overwrite}
-use Rattle.pegs.specs.Pegs.{firstBad, lines, pegsOf, pegsOn, pegsAnswer, bufferOf, bufferOn, pegsBuffer}
+use Rattle.peg_list.specs.Pegs.{firstBad, lines, pegsOf, pegsOn, pegsAnswer, bufferOf, bufferOn, pegsBuffer}
 
 -- 96 bytes for each of n pegs, by a quotient
 pub too-short : (room n : ℕ) → room / 96 < n → room < 96 * n

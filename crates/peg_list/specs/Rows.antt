@@ -8,7 +8,7 @@ use lib.Seq.{take-suc}
 use Rattle.road.specs.Base.{joined}
 use Rattle.road.specs.File.{Road}
 use Rattle.road.specs.Line.{line}
-use Rattle.pegs.specs.Pegs.{pegAt, lines}
+use Rattle.peg_list.specs.Pegs.{pegAt, lines}
 
 pub joined-append : {A : Type 0} (f : A → List ℕ) (xs ys : List A) → joined f (xs ++ ys) ≡ joined f xs ++ joined f ys
 unfolding joined
