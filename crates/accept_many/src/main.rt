@@ -1,4 +1,7 @@
 // Reads and judges the file on standard input many times, its step changed by one between calls, and prints how often it was accepted: for measuring.
+
+#![tactic(auto)]
+
 ghost use Rattle.std.specs.Prelude.{◌≤◌, length};
 
 use acceptance::Outcome;
@@ -22,8 +25,8 @@ fn other(b: u8) -> u8 {
 
 // So many calls; the step's first byte is the file's third.
 fn accepted_often(file: &mut [u8], calls: u64) -> u64
-    requires fact_1 { 3 ≤ length file.old }
-    requires fact_2 { calls ≤ 1000000 }
+    requires room { 3 ≤ length file.old }
+    requires few_calls { calls ≤ 1000000 }
 {
     let mut count: u64 = 0;
     let mut i: u64 = 0;

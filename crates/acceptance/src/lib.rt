@@ -1,4 +1,7 @@
 // A file is accepted, or turned away by the first refusal in the paper's order.
+
+#![tactic(auto)]
+
 ghost use Rattle.std.specs.Prelude.{◌≡◌};
 ghost use Rattle.file_numbers.specs.Reading.{refused};
 ghost use Rattle.road.specs.Rules.{accepted};
@@ -9,14 +12,14 @@ use road::AcceptedRoad;
 use rules::Verdict;
 
 // The file is accepted, or a refusal and its place.
-#[derive(Drop)]
+#[derive(Clone, Copy)]
 pub enum Outcome {
     Accepted,
     Refused(u32, usize),
 }
 
 // What a file gives; beside a refusal the road is blank: no item, no date, and every number 0.
-#[derive(Drop)]
+#[derive(Clone, Copy)]
 pub struct Acceptance {
     pub road: AcceptedRoad,
     pub outcome: Outcome,

@@ -1,4 +1,7 @@
 // Reading a file: from its bytes to the three lists with their counts, or refusal 1 to 4 or 22.
+
+#![tactic(auto)]
+
 ghost use Rattle.std.specs.Prelude.{◌≡◌};
 ghost use Rattle.road.specs.File.{element, tangent, point, read};
 ghost use Rattle.road.specs.Held.{held};
@@ -11,27 +14,27 @@ use fields::End;
 use road::{Alignment, Contract, Crossfall, Element, Head, Tangent};
 
 // What a file says: its alignment, with no item, no date and every number 0 where the file is refused.
-#[derive(Drop)]
+#[derive(Clone, Copy)]
 pub struct FileRead {
     pub alignment: Alignment,
     pub end: End,
 }
 
-#[derive(Drop)]
+#[derive(Clone, Copy)]
 struct Elements {
     items: [Element; 200],
     count: usize,
     end: End,
 }
 
-#[derive(Drop)]
+#[derive(Clone, Copy)]
 struct Tangents {
     items: [Tangent; 100],
     count: usize,
     end: End,
 }
 
-#[derive(Drop)]
+#[derive(Clone, Copy)]
 struct Crossfalls {
     items: [Crossfall; 200],
     count: usize,

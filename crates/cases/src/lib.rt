@@ -1,11 +1,14 @@
 // The cases of a test program's input: numbers, and parts that stand after their lengths.
+
+#![tactic(auto)]
+
 ghost use Rattle.std.specs.Prelude.{◌≡◌, ◌≤◌, length};
 ghost use Rattle.cases.specs.Cases.{item_at, part_at, within};
 
 use file_numbers::Number;
 
 // A number of the input and the place after it; 0 and the input's end where there is none.
-#[derive(Drop)]
+#[derive(Clone, Copy)]
 pub struct Item {
     pub value: u64,
     pub next: usize,
@@ -27,7 +30,7 @@ pub fn item_at(input: &[u8], at: usize) -> Item
 }
 
 // Where a part of the input begins and ends.
-#[derive(Drop)]
+#[derive(Clone, Copy)]
 pub struct Part {
     pub from: usize,
     pub end: usize,

@@ -1,4 +1,7 @@
 // The rules of a clothoid with the arcs around it: refusals 12 and 23.
+
+#![tactic(auto)]
+
 ghost use Rattle.std.specs.Prelude.{◌≡◌};
 ghost use Rattle.limits.specs.Row.{as_limits};
 ghost use Rattle.road.specs.Rules.{same_turn, wrong_egg, wrong_link, own_arc, short_egg, below_parameter, too_short, short_clothoid};

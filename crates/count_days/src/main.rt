@@ -1,4 +1,7 @@
 // Counts the days among the numbers from 0 to 30,000,000, by the test that the reader of a file makes.
+
+#![tactic(auto)]
+
 ghost use Rattle.std.specs.Prelude.{◌≡◌, ◌≤◌};
 ghost use Rattle.days.specs.Calendar.{one, days_below};
 

@@ -1,4 +1,7 @@
 // The rules of the crossfall points: tests of a point with those beside it.
+
+#![tactic(auto)]
+
 ghost use Rattle.std.specs.Prelude.{◌≡◌, ◌≤◌};
 ghost use Rattle.limits.specs.Row.{as_limits};
 ghost use Rattle.road.specs.Rules.{not_beyond, misplaced, wrong_side, wrong_crossfall, steep_side, steep_ramp, point_test};
@@ -67,8 +70,8 @@ pub fn number_of(rule: PointRule) -> u32
 
 // How many places a rule looks at in a list of so many items.
 pub fn places_of(rule: PointRule, count: usize) -> usize
-    ensures fact_1 { result ≡ (point_test rule).places count }
-    ensures fact_2 { result ≤ count }
+    ensures places { result ≡ (point_test rule).places count }
+    ensures within { result ≤ count }
 {
     match rule {
         PointRule::MisplacedPoint => count,

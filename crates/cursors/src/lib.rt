@@ -1,4 +1,7 @@
 // A station's places on the three lists of an accepted alignment, the segment there, and the next joint.
+
+#![tactic(auto)]
+
 ghost use Rattle.std.specs.Prelude.{◌≡◌, ℕ, suc, ◌-◌, ◌≤◌, ◌<◌, min, length};
 ghost use Rattle.road.specs.Base.{if◌then◌else◌};
 ghost use Rattle.road.specs.Exact.{blank_element, element_start, total};
@@ -13,7 +16,7 @@ use segment::Segment;
 use segment_parts::{Curvature, Piece, Sides, TangentPlace};
 
 // An element: which it is, where it begins and ends, and its curvature.
-#[derive(Drop)]
+#[derive(Clone, Copy)]
 pub struct ElementPlace {
     pub index: usize,
     pub begin: u64,
@@ -22,14 +25,14 @@ pub struct ElementPlace {
 }
 
 // A tangent, and a piece of the profile that begins on it or on the one before.
-#[derive(Drop)]
+#[derive(Clone, Copy)]
 pub struct ProfilePlace {
     pub tangent: TangentPlace,
     pub piece: Piece,
 }
 
 // A crossfall point: which it is, where the next one stands, and from the one to the other.
-#[derive(Drop)]
+#[derive(Clone, Copy)]
 pub struct CrossfallPlace {
     pub index: usize,
     pub end: u64,
@@ -37,7 +40,7 @@ pub struct CrossfallPlace {
 }
 
 // Where a station lies on the three lists.
-#[derive(Drop)]
+#[derive(Clone, Copy)]
 pub struct Place {
     pub element: ElementPlace,
     pub profile: ProfilePlace,
@@ -45,7 +48,7 @@ pub struct Place {
 }
 
 // A place, the segment there, and the station up to which the segment serves.
-#[derive(Drop)]
+#[derive(Clone, Copy)]
 pub struct View {
     pub place: Place,
     pub joint: u64,
@@ -92,9 +95,9 @@ fn element_if(there: bool, e: Element) -> Element
 
 // The last element that begins at or before x, from one that does.
 fn element_from(a: Alignment, first: usize, start: u64, x: u64) -> ElementPlace
-    requires fact_1 { Ready a }
-    requires fact_2 { start ≡ element_start (road_in a) first }
-    requires fact_3 { Reached (element_start (road_in a)) (length (road_in a).plan) x first }
+    requires ready { Ready a }
+    requires start_is { start ≡ element_start (road_in a) first }
+    requires reached { Reached (element_start (road_in a)) (length (road_in a).plan) x first }
     ensures { ElementFound (road_in a) result x }
 {
     let elements = a.elements;
@@ -121,8 +124,8 @@ fn element_from(a: Alignment, first: usize, start: u64, x: u64) -> ElementPlace
 
 // The last tangent that begins at or before x, from one that does, and the piece of the profile that has x.
 fn profile_from(a: Alignment, first: TangentPlace, x: u64) -> ProfilePlace
-    requires fact_1 { Ready a }
-    requires fact_2 { TangentReached (road_in a) first x }
+    requires ready { Ready a }
+    requires reached { TangentReached (road_in a) first x }
     ensures { ProfileFound (road_in a) result x }
 {
     let tangents = a.tangents;
@@ -142,8 +145,8 @@ fn profile_from(a: Alignment, first: TangentPlace, x: u64) -> ProfilePlace
 
 // The last crossfall point at or before x, of all but the road's last, from one that is.
 fn crossfall_from(a: Alignment, first: usize, x: u64) -> CrossfallPlace
-    requires fact_1 { Ready a }
-    requires fact_2 { Reached (point_station (road_in a)) (length (road_in a).crossfalls - 1) x first }
+    requires ready { Ready a }
+    requires reached { Reached (point_station (road_in a)) (length (road_in a).crossfalls - 1) x first }
     ensures { CrossfallFound (road_in a) result x }
 {
     let crossfalls = a.crossfalls;
@@ -177,8 +180,8 @@ fn element_on(a: Alignment, p: ElementPlace, x: u64) -> ElementPlace
 
 // The piece of the profile that has x, from one at or before it.
 fn profile_on(a: Alignment, p: ProfilePlace, x: u64) -> ProfilePlace
-    requires fact_1 { Ready a }
-    requires fact_2 { ProfileReached (road_in a) p x }
+    requires ready { Ready a }
+    requires reached { ProfileReached (road_in a) p x }
     ensures { ProfileFound (road_in a) result x }
 {
     let piece = p.piece;
@@ -238,10 +241,10 @@ pub fn moved(a: Alignment, p: Place, x: u64) -> Place
 
 // The place of x, the segment there, and the next joint.
 pub fn view_at(a: Alignment, p: Place, x: u64, lane: u32) -> View
-    requires fact_1 { Ready a }
-    requires fact_2 { PlaceReached (road_in a) p x }
-    requires fact_3 { x ≤ total (road_in a) }
-    requires fact_4 { lane ≡ lane_width (road_in a) }
+    requires ready { Ready a }
+    requires reached { PlaceReached (road_in a) p x }
+    requires on_road { x ≤ total (road_in a) }
+    requires lane_is { lane ≡ lane_width (road_in a) }
     ensures { Viewed (road_in a) result x }
 {
     let place = moved(a, p, x);

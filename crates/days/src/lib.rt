@@ -1,4 +1,7 @@
 // Which numbers are days of the Gregorian calendar, written as year, month and day.
+
+#![tactic(auto)]
+
 ghost use Rattle.std.specs.Prelude.{◌≡◌};
 ghost use Rattle.days.specs.Day.{leap_year, month_days, is_day};
 

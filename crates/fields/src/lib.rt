@@ -1,4 +1,7 @@
 // The numbers of the file, each in its range and read from where reading ended: refusals 2, 3 and 22.
+
+#![tactic(auto)]
+
 ghost use Rattle.std.specs.Prelude.{◌≡◌, ◌&&◌, leb, pos, neg_ℤ};
 ghost use Rattle.file_numbers.specs.Number.{signed_of};
 ghost use Rattle.days.specs.Day.{is_day};
@@ -10,20 +13,20 @@ use file_numbers::Number;
 use reader::ThreeNumbers;
 
 // Where reading ended: at a place, or with a refusal and its place.
-#[derive(Drop)]
+#[derive(Clone, Copy)]
 pub enum End {
     At(usize),
     Refused(u32, usize),
 }
 
 // A value, and where reading ended; beside a refusal the value is blank: every number is 0.
-#[derive(Drop)]
+#[derive(Clone, Copy)]
 pub struct Field {
     pub value: u32,
     pub end: End,
 }
 
-#[derive(Drop)]
+#[derive(Clone, Copy)]
 pub struct SignedField {
     pub value: i32,
     pub end: End,

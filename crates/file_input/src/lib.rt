@@ -1,11 +1,14 @@
 // A file from standard input.
+
+#![tactic(auto)]
+
 ghost use Rattle.std.specs.Prelude.{length};
 ghost use Rattle.file_input.specs.Within.{Within};
 
 use libc::STDIN_FILENO;
 
 // How many bytes were read, or that a read failed.
-#[derive(Drop)]
+#[derive(Clone, Copy)]
 pub enum Input {
     Bytes(usize),
     Failed,

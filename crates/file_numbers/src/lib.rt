@@ -1,4 +1,7 @@
 // The numbers of the file: seven bits to a byte, lowest group first.
+
+#![tactic(auto)]
+
 ghost use Rattle.std.specs.Prelude.{◌≡◌, ◌&&◌, ◌+◌, ◌*◌, ◌^◌, ◌%◌, ◌<◌, leb, pos, neg_ℤ, nat_abs};
 ghost use Rattle.std.specs.Int.Signed.{le_z};
 ghost use Rattle.file_numbers.specs.Number.{byte_count, number, signed_of, written};
@@ -6,7 +9,7 @@ ghost use Rattle.file_numbers.specs.Meaning.{meaning};
 ghost use Rattle.file_numbers.specs.Answer.{answer};
 
 // What stands at a place of the file: a number and the place after it, or none.
-#[derive(Drop)]
+#[derive(Clone, Copy)]
 pub enum Number {
     Value(u32, usize),
     Faulty,

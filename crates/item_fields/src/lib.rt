@@ -1,4 +1,7 @@
 // The items of the file, each made of its fields: the contract, the head, a plan element, a tangent, a crossfall point.
+
+#![tactic(auto)]
+
 ghost use Rattle.std.specs.Prelude.{◌≡◌};
 ghost use Rattle.road.specs.File.{radius, element, half, tangent, point, contract_fields, head_fields};
 ghost use Rattle.fields.specs.Ends.{reached, onward, as_field, as_signed};
@@ -8,32 +11,32 @@ use fields::{End, Field, SignedField};
 use road::{Contract, Crossfall, Element, Head, Tangent};
 
 // What stands before the class, and where reading ended; beside a refusal there is no date.
-#[derive(Drop)]
+#[derive(Clone, Copy)]
 pub struct ContractRead {
     pub item: Contract,
     pub end: End,
 }
 
 // An item, and where reading ended; beside a refusal the item is blank: every number is 0, and there is no date.
-#[derive(Drop)]
+#[derive(Clone, Copy)]
 pub struct HeadRead {
     pub item: Head,
     pub end: End,
 }
 
-#[derive(Drop)]
+#[derive(Clone, Copy)]
 pub struct ElementRead {
     pub item: Element,
     pub end: End,
 }
 
-#[derive(Drop)]
+#[derive(Clone, Copy)]
 pub struct TangentRead {
     pub item: Tangent,
     pub end: End,
 }
 
-#[derive(Drop)]
+#[derive(Clone, Copy)]
 pub struct CrossfallRead {
     pub item: Crossfall,
     pub end: End,

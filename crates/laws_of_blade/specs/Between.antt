@@ -7,7 +7,7 @@ use Prim.Native.Nat.{ℕ, ◌+◌, ◌*◌, ◌-◌, ◌≤◌, ◌<◌}
 use Rattle.std.proofs.Math.IntN.{pos}
 use Rattle.integers.specs.Ring.{◌:+◌, ◌:-◌, ◌:*◌, #, ring, $}
 use Rattle.integers.specs.Rounding.{rounded}
-use Rattle.integers.specs.Fraction.{Frac, ◌÷◌, whole, ◌+ᶠ◌, ◌_ᶠ◌, ◌×ᶠ◌, size, ◌≤ᶠ◌, ◌≈ᶠ◌}
+use Rattle.integers.specs.Fraction.{Frac, ◌÷◌, whole, ◌+ᶠ◌, ◌-ᶠ◌, ◌×ᶠ◌, size, ◌≤ᶠ◌, ◌≈ᶠ◌}
 use Rattle.integers.specs.Values.{positive-mul, other_way, add-value, mul-value, far-value}
 use Rattle.road.specs.File.{Road}
 use Rattle.road.specs.Exact.{Side, total, tangent_height, start_height, curve_height, height, crossfall_by, edge_drop, edge, half_length, grade_change}

@@ -4,7 +4,7 @@ use Prim.Native.Nat.{ℕ, ◌+◌, ◌*◌, ◌-◌, ◌≤◌, ◌<◌}
 use Rattle.std.proofs.Common.{arith, mul-le-mul_left}
 use Rattle.std.proofs.Math.IntN.{pos}
 use Rattle.integers.specs.Bridge.{abs_mul}
-use Rattle.integers.specs.Fraction.{◌÷◌, whole, ◌+ᶠ◌, ◌_ᶠ◌, ◌×ᶠ◌, size, ◌≤ᶠ◌}
+use Rattle.integers.specs.Fraction.{◌÷◌, whole, ◌+ᶠ◌, ◌-ᶠ◌, ◌×ᶠ◌, size, ◌≤ᶠ◌}
 use Rattle.integers.specs.Values.{positive-mul}
 use Rattle.laws_of_blade.specs.Surface.{straight}
 use Rattle.laws_of_blade.specs.Chord.{ChordAbove, straight-off, out⁺}

@@ -3,7 +3,7 @@ use Rattle.std.specs.Prelude.{◌≡◌, [], ◌∷◌, ℕ, ◌+◌, ◌*◌, �
 use Rattle.std.proofs.Common.{ap, ap₂, ◌∙◌, arith, mul-le-mul_left, leb→le, le→leb}
 use Rattle.integers.specs.Bridge.{abs_mul}
 use Rattle.integers.specs.Ring.{◌:+◌, ◌:-◌, ◌:*◌, #, ring, $}
-use Rattle.integers.specs.Fraction.{◌÷◌, whole, ◌_ᶠ◌, size, ◌≤ᶠ◌}
+use Rattle.integers.specs.Fraction.{◌÷◌, whole, ◌-ᶠ◌, size, ◌≤ᶠ◌}
 use Rattle.road.specs.Exact.{from◌to◌}
 use Rattle.laws_of_blade.specs.Surface.{straight}
 use Rattle.laws_of_blade.specs.Quadratic.{chord}

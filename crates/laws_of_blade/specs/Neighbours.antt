@@ -8,7 +8,7 @@ use Rattle.std.proofs.Math.Decide.{dec_le}
 use Rattle.std.proofs.lemmas.List.{length-map}
 use Rattle.std.proofs.Math.ListN.{get_or-map}
 use Rattle.file_numbers.specs.Reading.{got}
-use Rattle.integers.specs.Fraction.{◌_ᶠ◌, size, ◌≤ᶠ◌}
+use Rattle.integers.specs.Fraction.{◌-ᶠ◌, size, ◌≤ᶠ◌}
 use Rattle.road.specs.File.{Road}
 use Rattle.road.specs.Exact.{Side, total, edge}
 use Rattle.road.specs.Listed.{stations, listed}

@@ -1,6 +1,6 @@
 -- A point of the lane between the axis and an edge: its exact height, its printed height, and the straight line between two printed heights.
 use Rattle.std.specs.Prelude.{ℕ, ◌-◌, pos}
-use Rattle.integers.specs.Fraction.{Frac, ◌÷◌, whole, ◌+ᶠ◌, ◌_ᶠ◌, ◌×ᶠ◌}
+use Rattle.integers.specs.Fraction.{Frac, ◌÷◌, whole, ◌+ᶠ◌, ◌-ᶠ◌, ◌×ᶠ◌}
 use Rattle.integers.specs.Rounding.{rounded}
 use Rattle.road.specs.File.{Road}
 use Rattle.road.specs.Exact.{Side, height, edge_drop, from◌to◌}

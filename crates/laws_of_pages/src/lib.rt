@@ -1,1 +1,4 @@
 // What follows from the definitions of the pages; no code.
+
+#![tactic(auto)]
+

@@ -3,7 +3,7 @@ use Rattle.std.specs.Prelude.{◌≡◌, List, ℕ, suc, ◌*◌, ◌≤◌, ◌
 use Rattle.std.proofs.Math.Path.{ap}
 use Rattle.std.proofs.Common.{arith}
 use Rattle.file_numbers.specs.Reading.{got}
-use Rattle.integers.specs.Fraction.{◌_ᶠ◌, size, ◌≤ᶠ◌}
+use Rattle.integers.specs.Fraction.{◌-ᶠ◌, size, ◌≤ᶠ◌}
 use Rattle.decimal.specs.Decimal.{number_in}
 use Rattle.road.specs.File.{Road}
 use Rattle.road.specs.Exact.{Side, total, edge}

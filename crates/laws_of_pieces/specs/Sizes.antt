@@ -10,7 +10,7 @@ use Rattle.std.proofs.Math.ListN.{length}
 use Rattle.std.proofs.Math.IntN.{pos, nat_abs}
 use Rattle.integers.specs.Bridge.{abs_sum, abs_difference, abs_product}
 use Rattle.road.specs.Base.{if◌then◌else◌, sum_of}
-use Rattle.integers.specs.Fraction.{◌÷◌, whole, ◌+ᶠ◌, ◌_ᶠ◌, ◌×ᶠ◌}
+use Rattle.integers.specs.Fraction.{◌÷◌, whole, ◌+ᶠ◌, ◌-ᶠ◌, ◌×ᶠ◌}
 use Rattle.road.specs.File.{Road}
 use Rattle.road.specs.Exact.{total, tangent_of, point_of, element_of, element_start, element_at, is_straight, is_arc, tangent_start, tangent_at, vertex_count, vertex, half_length, grade_change, past, rise, start_height, tangent_height, in_curve, curve_at, curve_height, height_by, height, grade_by, grade, Side, crossfall_of, crossfall_by, crossfall, point_at, edge_drop, arc_curvature, end_curvature, start_curvature, clothoid_curvature, curvature_on, curvature, from◌to◌}
 use Rattle.road.specs.Lane.{lane_width}

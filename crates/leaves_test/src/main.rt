@@ -1,4 +1,7 @@
 // Runs the leaves on document 01's worked values; the expected output stands in the file `stdout`.
+
+#![tactic(auto)]
+
 use file_numbers::Number;
 
 // A number on a line of its own.

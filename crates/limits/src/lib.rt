@@ -1,4 +1,7 @@
 // The limits of both rule books as tables of tables: a row for each speed, a column for each limit.
+
+#![tactic(auto)]
+
 ghost use Rattle.std.specs.Prelude.{◌≡◌, ◌<◌};
 ghost use Rattle.road.specs.Limits.{speed, table, handbook, cell, is_old, radius_min_at, clothoid_at, limits_at, limits_of};
 ghost use Rattle.limits.specs.Row.{as_limits};
@@ -57,7 +60,7 @@ pub const CROSSFALL_MAX: u32 = 70000;
 
 pub const CROWN: u32 = 25000;
 
-#[derive(Drop)]
+#[derive(Clone, Copy)]
 pub struct Limits {
     pub straight_max: u32,
     pub straight_min: u32,

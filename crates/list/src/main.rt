@@ -1,11 +1,14 @@
 // Reads an alignment file from standard input and prints its list, or the refusal that turns it away.
+
+#![tactic(auto)]
+
 ghost use Rattle.std.specs.Prelude.{length};
 ghost use Rattle.list.specs.Within.{Within};
 
 use libc::{STDERR_FILENO, STDIN_FILENO};
 
 // How many bytes were read, or that a read failed.
-#[derive(Drop)]
+#[derive(Clone, Copy)]
 enum Input {
     Bytes(usize),
     Failed,

@@ -8,7 +8,7 @@ use walk::Onward;
 
 // How the list goes on after the parts handed over, and whether all of them were written. The fields are private: a list goes on from where its last part
 // ended, and nothing but `hand_over` moves it on.
-#[derive(Drop)]
+#[derive(Clone, Copy)]
 pub struct Handed {
     next: Onward,
     is_written: bool,

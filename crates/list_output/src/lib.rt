@@ -1,4 +1,7 @@
 // The list of a file on standard output.
+
+#![tactic(auto)]
+
 mod handed;
 
 ghost use Rattle.std.specs.Prelude.{◌≡◌, true, [], ◌∷◌, ◌++◌, ◌+◌, ◌≤◌, length};
@@ -19,10 +22,10 @@ use walk::Onward;
 
 // Writes a number and the byte `after` behind it, from `at` on, and returns the place after that.
 fn put_number(pairs: &[u8; 200], line: &mut [u8], at: usize, n: u64, after: u8) -> usize
-    requires fact_1 { pairs.now ≡ pair_table }
-    requires fact_2 { at + 21 ≤ length line.old }
-    ensures fact_1 { Wrote line.old line.new at (digits n ++ (after ∷ [])) result }
-    ensures fact_2 { result ≤ at + 21 }
+    requires table { pairs.now ≡ pair_table }
+    requires room { at + 21 ≤ length line.old }
+    ensures wrote { Wrote line.old line.new at (digits n ++ (after ∷ [])) result }
+    ensures most { result ≤ at + 21 }
 {
     let end = decimal::put_digits(pairs, line, at, n);
     line[end] = after;
@@ -42,8 +45,8 @@ fn put_mark(line: &mut [u8]) -> usize
 // "R", number and place of a refusal, from the start of the line on; the line's length.
 pub fn put_refusal(line: &mut [u8], number: u32, place: usize) -> usize
     requires { 64 ≤ length line.old }
-    ensures fact_1 { Wrote line.old line.new 0 (refusal_line number place) result }
-    ensures fact_2 { result ≤ 64 }
+    ensures wrote { Wrote line.old line.new 0 (refusal_line number place) result }
+    ensures most { result ≤ 64 }
 {
     let pairs = decimal::pairs();
     let start = put_mark(line);
@@ -63,8 +66,8 @@ fn print_refusal(file: &[u8], number: u32, place: usize) -> Handed
 
 // The part that follows: its rows put into the buffer, as many as it has room for, and handed over.
 fn print_part(file: &[u8], road: AcceptedRoad, before: Handed, out: &mut [u8]) -> Handed
-    requires fact_1 { TakenAs file.now road }
-    requires fact_2 { 96 ≤ length out.old }
+    requires taken { TakenAs file.now road }
+    requires room { 96 ≤ length out.old }
     ensures { Later before.next result.next }
 {
     let next = handed::next_of(before);

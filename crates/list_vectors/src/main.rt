@@ -1,5 +1,8 @@
 // Prints the lists and refusals of the vectors: files one behind another on standard input, each after its length.
 
+#![tactic(auto)]
+
+
 // Prints the list of the file that the input has from a place on; the place after it.
 fn one_list(input: &[u8], at: usize) -> usize {
     let part = cases::part_at(input, at);

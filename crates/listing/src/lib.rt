@@ -1,4 +1,7 @@
 // The list of a file, as many whole rows at a time as a lent buffer has room for.
+
+#![tactic(auto)]
+
 ghost use Rattle.std.specs.Prelude.{◌≡◌, length};
 ghost use Rattle.road.specs.Held.{road_in};
 ghost use Rattle.cursors.specs.Places.{RoadReady};
@@ -9,7 +12,7 @@ use road::AcceptedRoad;
 use walk::Onward;
 
 // A refusal and its place; how many bytes were written and the station to go on from; or how many, and the list is done.
-#[derive(Drop)]
+#[derive(Clone, Copy)]
 pub enum ListAnswer {
     Refused(u32, usize),
     More(usize, u64),

@@ -1,5 +1,8 @@
 // Makes 20,000 calls of one kind on a file, its step changed by one between calls, and prints the sum of their answers: for measuring.
 // Standard input has a letter and then the file: r reads it, m reads it and gives its marks, j judges its road at each of the seven speeds.
+
+#![tactic(auto)]
+
 ghost use Rattle.std.specs.Prelude.{◌≤◌, length};
 ghost use Rattle.road.specs.Held.{Counted};
 
@@ -80,8 +83,8 @@ fn other_byte(b: u8) -> u8 {
 
 // The step's first byte is the file's third.
 fn file_calls(file: &mut [u8], kind: u8, calls: u64) -> u64
-    requires fact_1 { 3 ≤ length file.old }
-    requires fact_2 { calls ≤ 1000000 }
+    requires room { 3 ≤ length file.old }
+    requires few_calls { calls ≤ 1000000 }
 {
     let mut sum: u64 = 0;
     let mut i: u64 = 0;
@@ -94,8 +97,8 @@ fn file_calls(file: &mut [u8], kind: u8, calls: u64) -> u64
 }
 
 fn road_calls(a: Alignment, calls: u64) -> u64
-    requires fact_1 { Counted a }
-    requires fact_2 { calls ≤ 1000000 }
+    requires counted { Counted a }
+    requires few_calls { calls ≤ 1000000 }
 {
     let mut held = a;
     let mut sum: u64 = 0;

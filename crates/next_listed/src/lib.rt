@@ -1,4 +1,7 @@
 // The least listed station not below a station.
+
+#![tactic(auto)]
+
 ghost use Rattle.std.specs.Prelude.{◌≡◌, ℕ, ◌+◌, ◌<◌, ◌≤◌};
 ghost use Rattle.std.proofs.Math.Option.{none};
 ghost use Rattle.road.specs.Exact.{total};
@@ -9,7 +12,7 @@ ghost use Rattle.next_listed.specs.Least.{as_option, least_with, point_stations,
 use road::{AcceptedRoad, Alignment};
 
 // A station, or that there is none.
-#[derive(Drop)]
+#[derive(Clone, Copy)]
 pub enum Least {
     At(u64),
     Nothing,
@@ -98,9 +101,9 @@ fn with_element_ends(a: Alignment, s: u64, least: Least) -> Least
 
 // The multiples of step below T.
 fn with_multiples(s: u64, step: u64, total: u64, least: Least) -> Least
-    requires fact_1 { 0 < step }
-    requires fact_2 { step ≤ 4294967295 }
-    requires fact_3 { total ≤ 1000000000000 }
+    requires step_positive { 0 < step }
+    requires step_small { step ≤ 4294967295 }
+    requires total_small { total ≤ 1000000000000 }
     ensures { as_option result ≡ least_with s (multiples step total) (as_option least) }
 {
     if total < s {
@@ -116,10 +119,10 @@ fn with_multiples(s: u64, step: u64, total: u64, least: Least) -> Least
 
 // The least listed station not below s, or that there is none.
 pub fn next_in(road: AcceptedRoad, s: u64) -> Least
-    requires fact_1 { Counted road.alignment }
-    requires fact_2 { 0 < road.alignment.head.step }
-    requires fact_3 { road.total ≡ total (road_in road.alignment) }
-    requires fact_4 { road.total ≤ 100000000 }
+    requires counted { Counted road.alignment }
+    requires step_positive { 0 < road.alignment.head.step }
+    requires total_is { road.total ≡ total (road_in road.alignment) }
+    requires total_small { road.total ≤ 100000000 }
     ensures { as_option result ≡ next_listed (road_in road.alignment) s }
 {
     let a = road.alignment;

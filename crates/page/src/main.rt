@@ -1,4 +1,7 @@
 // Reads an alignment file from standard input and prints the pages for the site cabin, or the refusal that turns it away.
+
+#![tactic(auto)]
+
 use file_input::Input;
 use libc::STDERR_FILENO;
 

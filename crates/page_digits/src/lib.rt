@@ -1,4 +1,7 @@
 // The texts of the numbers below 1,000, in a table: to write one is to copy four bytes.
+
+#![tactic(auto)]
+
 ghost use Rattle.std.specs.Prelude.{◌≡◌, ◌∷◌, ◌+◌, ◌≤◌, ◌<◌, length};
 ghost use Rattle.decimal.specs.Digits.{last_digits};
 ghost use Rattle.decimal.specs.Written.{Wrote};
@@ -13,9 +16,9 @@ fn front_digit(n: u64) -> u8
 
 // Writes the text of n from `at` on, and returns the place after it.
 fn put_text(table: &mut [u8; 8000], at: usize, n: u64) -> usize
-    requires fact_1 { length table.old ≡ 8000 }
-    requires fact_2 { at + 8 ≤ 8000 }
-    requires fact_3 { n < 1000 }
+    requires whole_table { length table.old ≡ 8000 }
+    requires in_table { at + 8 ≤ 8000 }
+    requires small { n < 1000 }
     ensures { Wrote table.old table.new at (text n) result }
 {
     let hundreds = front_digit(n / 100);
@@ -48,9 +51,9 @@ pub fn texts() -> [u8; 8000]
 
 // Writes n right-aligned in four bytes from `at` on, and returns the place after them.
 pub fn put_lead(texts: &[u8; 8000], buf: &mut [u8], at: usize, n: u64) -> usize
-    requires fact_1 { texts.now ≡ text_table }
-    requires fact_2 { at + 4 ≤ length buf.old }
-    requires fact_3 { n < 1000 }
+    requires table { texts.now ≡ text_table }
+    requires room { at + 4 ≤ length buf.old }
+    requires small { n < 1000 }
     ensures { Wrote buf.old buf.new at (lead n) result }
 {
     let from = 8 * n as usize;
@@ -68,9 +71,9 @@ pub fn put_lead(texts: &[u8; 8000], buf: &mut [u8], at: usize, n: u64) -> usize
 
 // Writes the three digits of n, zeros in front included, from `at` on, and returns the place after them.
 pub fn put_three(texts: &[u8; 8000], buf: &mut [u8], at: usize, n: u64) -> usize
-    requires fact_1 { texts.now ≡ text_table }
-    requires fact_2 { at + 3 ≤ length buf.old }
-    requires fact_3 { n < 1000 }
+    requires table { texts.now ≡ text_table }
+    requires room { at + 3 ≤ length buf.old }
+    requires small { n < 1000 }
     ensures { Wrote buf.old buf.new at (last_digits 3 n) result }
 {
     let from = 8 * n as usize;
@@ -85,9 +88,9 @@ pub fn put_three(texts: &[u8; 8000], buf: &mut [u8], at: usize, n: u64) -> usize
 
 // Writes a point and the three digits of n from `at` on, and returns the place after them.
 pub fn put_decimals(texts: &[u8; 8000], buf: &mut [u8], at: usize, n: u64) -> usize
-    requires fact_1 { texts.now ≡ text_table }
-    requires fact_2 { at + 4 ≤ length buf.old }
-    requires fact_3 { n < 1000 }
+    requires table { texts.now ≡ text_table }
+    requires room { at + 4 ≤ length buf.old }
+    requires small { n < 1000 }
     ensures { Wrote buf.old buf.new at (46 ∷ last_digits 3 n) result }
 {
     let from = 8 * n as usize;

@@ -1,4 +1,7 @@
 // A line of the page: a station and three heights, right-aligned in their cells; and the line that heads them.
+
+#![tactic(auto)]
+
 ghost use Rattle.std.specs.Prelude.{◌≡◌, ◌∷◌, ◌+◌, ◌≤◌, ◌<◌, nat_abs, length, replicate};
 ghost use Rattle.decimal.specs.Decimal.{digits};
 ghost use Rattle.decimal.specs.Pairs.{pair_table};
@@ -57,10 +60,10 @@ fn put_right(
     is_below: bool,
     n: u64,
 ) -> usize
-    requires fact_1 { pairs.now ≡ pair_table }
-    requires fact_2 { at + width ≤ length buf.old }
-    requires fact_3 { n < 100000 }
-    requires fact_4 { length (signed is_below n) ≤ width }
+    requires table { pairs.now ≡ pair_table }
+    requires room { at + width ≤ length buf.old }
+    requires small { n < 100000 }
+    requires room_2 { length (signed is_below n) ≤ width }
     ensures { Wrote buf.old buf.new at (cell width (signed is_below n)) result }
 {
     let end = put_blanks(buf, at, width);
@@ -73,9 +76,9 @@ fn put_right(
 
 // Writes whole metres right-aligned in seven bytes from `at` on, and returns the place after them.
 fn put_metres(texts: &[u8; 8000], buf: &mut [u8], at: usize, n: u64) -> usize
-    requires fact_1 { texts.now ≡ text_table }
-    requires fact_2 { at + 7 ≤ length buf.old }
-    requires fact_3 { n < 100000 }
+    requires table { texts.now ≡ text_table }
+    requires room { at + 7 ≤ length buf.old }
+    requires small { n < 100000 }
     ensures { Wrote buf.old buf.new at (cell 7 (digits n)) result }
 {
     if n < 1000 {
@@ -88,10 +91,10 @@ fn put_metres(texts: &[u8; 8000], buf: &mut [u8], at: usize, n: u64) -> usize
 
 // Writes a station's cell from `at` on, and returns the place after it.
 fn put_station(texts: &[u8; 8000], pairs: &[u8; 200], buf: &mut [u8], at: usize, x: u64) -> usize
-    requires fact_1 { texts.now ≡ text_table }
-    requires fact_2 { pairs.now ≡ pair_table }
-    requires fact_3 { at + 11 ≤ length buf.old }
-    requires fact_4 { x ≤ 100000000 }
+    requires table { texts.now ≡ text_table }
+    requires table_2 { pairs.now ≡ pair_table }
+    requires room { at + 11 ≤ length buf.old }
+    requires station_small { x ≤ 100000000 }
     ensures { Wrote buf.old buf.new at (cell 11 (station_text x)) result }
 {
     let plus = put_right(pairs, buf, at, 3, false, x / 1000000);
@@ -102,10 +105,10 @@ fn put_station(texts: &[u8; 8000], pairs: &[u8; 200], buf: &mut [u8], at: usize,
 
 // Writes a blank and a height's cell from `at` on, and returns the place after it.
 fn put_height(texts: &[u8; 8000], pairs: &[u8; 200], buf: &mut [u8], at: usize, v: i64) -> usize
-    requires fact_1 { texts.now ≡ text_table }
-    requires fact_2 { pairs.now ≡ pair_table }
-    requires fact_3 { at + 11 ≤ length buf.old }
-    requires fact_4 { nat_abs v < 100000000 }
+    requires table { texts.now ≡ text_table }
+    requires table_2 { pairs.now ≡ pair_table }
+    requires room { at + 11 ≤ length buf.old }
+    requires small { nat_abs v < 100000000 }
     ensures { Wrote buf.old buf.new at (32 ∷ cell 10 (height_text v)) result }
 {
     let size = size_of(v);
@@ -128,13 +131,13 @@ pub fn put_line(
     left: i64,
     right: i64,
 ) -> usize
-    requires fact_1 { texts.now ≡ text_table }
-    requires fact_2 { pairs.now ≡ pair_table }
-    requires fact_3 { at + 45 ≤ length buf.old }
-    requires fact_4 { x ≤ 100000000 }
-    requires fact_5 { (nat_abs axis < 100000000) × (nat_abs left < 100000000) × (nat_abs right < 100000000) }
-    ensures fact_1 { Wrote buf.old buf.new at (page_line x axis left right) result }
-    ensures fact_2 { result ≡ at + 45 }
+    requires table { texts.now ≡ text_table }
+    requires table_2 { pairs.now ≡ pair_table }
+    requires room { at + 45 ≤ length buf.old }
+    requires station_small { x ≤ 100000000 }
+    requires heights_short { (nat_abs axis < 100000000) × (nat_abs left < 100000000) × (nat_abs right < 100000000) }
+    ensures wrote { Wrote buf.old buf.new at (page_line x axis left right) result }
+    ensures end { result ≡ at + 45 }
 {
     let second = put_station(texts, pairs, buf, at, x);
     let third = put_height(texts, pairs, buf, second, axis);
@@ -147,8 +150,8 @@ pub fn put_line(
 // Writes the line that heads a page from `at` on, and returns the place after it.
 pub fn put_header(buf: &mut [u8], at: usize) -> usize
     requires { at + 45 ≤ length buf.old }
-    ensures fact_1 { Wrote buf.old buf.new at header result }
-    ensures fact_2 { result ≡ at + 45 }
+    ensures wrote { Wrote buf.old buf.new at header result }
+    ensures end { result ≡ at + 45 }
 {
     let text = *b"    STATION     CENTRE       LEFT      RIGHT\n";
     let mut i: usize = 0;

@@ -1,4 +1,7 @@
 // The pages of the listed stations, in one walk along the three lists of an accepted road.
+
+#![tactic(auto)]
+
 ghost use Rattle.std.specs.Prelude.{◌≡◌, ◌+◌, ◌≤◌, length, take, drop};
 ghost use mathlib.Core.List.{Memᴰ};
 ghost use Rattle.decimal.specs.Pairs.{pair_table};
@@ -23,7 +26,7 @@ use segment::Segment;
 use walk::{Chunk, Onward, Walk};
 
 // Where a page ended: the walk at the station after its last row, and the place after its last byte.
-#[derive(Drop)]
+#[derive(Clone, Copy)]
 pub struct PageEnd {
     pub walk: Walk,
     pub at: usize,
@@ -38,12 +41,12 @@ fn put_row(
     out: &mut [u8],
     at: usize,
 ) -> usize
-    requires fact_1 { texts.now ≡ text_table }
-    requires fact_2 { pairs.now ≡ pair_table }
-    requires fact_3 { Sound here x }
-    requires fact_4 { at + 45 ≤ length out.old }
-    ensures fact_1 { Wrote out.old out.new at (line_of here x) result }
-    ensures fact_2 { result ≡ at + 45 }
+    requires table { texts.now ≡ text_table }
+    requires table_2 { pairs.now ≡ pair_table }
+    requires sound { Sound here x }
+    requires room { at + 45 ≤ length out.old }
+    ensures wrote { Wrote out.old out.new at (line_of here x) result }
+    ensures end { result ≡ at + 45 }
 {
     let h = segment::heights_at(here, x);
     page_line::put_line(texts, pairs, out, at, x, h.axis, h.left, h.right)
@@ -58,11 +61,11 @@ fn put_rows(
     out: &mut [u8],
     at: usize,
 ) -> PageEnd
-    requires fact_1 { RoadReady road }
-    requires fact_2 { texts.now ≡ text_table }
-    requires fact_3 { pairs.now ≡ pair_table }
-    requires fact_4 { Entered (road_in road.alignment) begun.station begun }
-    requires fact_5 { at + 2700 ≤ length out.old }
+    requires ready { RoadReady road }
+    requires table { texts.now ≡ text_table }
+    requires table_2 { pairs.now ≡ pair_table }
+    requires entered { Entered (road_in road.alignment) begun.station begun }
+    requires room { at + 2700 ≤ length out.old }
     ensures wrote_1 { Wrote out.old out.new at (joined (row_line (road_in road.alignment)) (take 60 (not_below begun.station (listed (road_in road.alignment))))) result.at }
     ensures wrote_2 { result.at ≤ at + 2700 }
     ensures paged { Paged (road_in road.alignment) begun result.walk }
@@ -95,11 +98,11 @@ fn put_page(
     out: &mut [u8],
     at: usize,
 ) -> PageEnd
-    requires fact_1 { RoadReady road }
-    requires fact_2 { texts.now ≡ text_table }
-    requires fact_3 { pairs.now ≡ pair_table }
-    requires fact_4 { Entered (road_in road.alignment) begun.station begun }
-    requires fact_5 { at + 2746 ≤ length out.old }
+    requires ready { RoadReady road }
+    requires table { texts.now ≡ text_table }
+    requires table_2 { pairs.now ≡ pair_table }
+    requires entered { Entered (road_in road.alignment) begun.station begun }
+    requires room { at + 2746 ≤ length out.old }
     ensures wrote_1 { Wrote out.old out.new at (page (row_line (road_in road.alignment)) (take 60 (not_below begun.station (listed (road_in road.alignment))))) result.at }
     ensures wrote_2 { result.at ≤ at + 2746 }
     ensures paged { Paged (road_in road.alignment) begun result.walk }
@@ -114,8 +117,8 @@ fn put_page(
 
 // The pages from a listed station on, as long as at least 2,746 bytes remain.
 fn pages_on(road: AcceptedRoad, first: u64, out: &mut [u8]) -> Chunk
-    requires fact_1 { RoadReady road }
-    requires fact_2 { Memᴰ first (listed (road_in road.alignment)) }
+    requires ready { RoadReady road }
+    requires is_listed { Memᴰ first (listed (road_in road.alignment)) }
     ensures value { result ≡ answer (page_chunk (road_in road.alignment) first (length out.old)) }
     ensures out_after { out.new ≡ overwrite (page_chunk (road_in road.alignment) first (length out.old)).text out.old }
 {

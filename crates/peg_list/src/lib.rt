@@ -1,4 +1,7 @@
 // Request A.5: the first bad peg of a list.
+
+#![tactic(auto)]
+
 ghost use Rattle.std.specs.Prelude.{◌≡◌, ◌<◌, length};
 ghost use Rattle.peg_list.specs.Pegs.{falls, is_bad, first_bad};
 ghost use Rattle.peg_list.specs.Search.{or_count};

@@ -1,5 +1,8 @@
 // Makes many calls of one kind for 2,000 pegs spread evenly over a road, its step changed by one between calls, and prints the sum of their answers modulo 2^32: for measuring.
 // Standard input has a letter, n in two bytes, the low one first, and then the file: a judges it n times, g gives the rows of the pegs in one go n times, s by single calls n times, l lists it n times, p prints the rows.
+
+#![tactic(auto)]
+
 ghost use Rattle.std.specs.Prelude.{◌<◌, ◌≤◌, length};
 ghost use Rattle.cursors.specs.Places.{RoadReady};
 
@@ -88,8 +91,8 @@ fn other(b: u8) -> u8 {
 
 // The step's first byte is the file's third.
 fn calls(kind: u8, count: usize, file: &mut [u8], stations: &[u64; 2000], out: &mut [u8]) -> u32
-    requires fact_1 { 3 ≤ length file.old }
-    requires fact_2 { count ≤ 1000000000 }
+    requires room { 3 ≤ length file.old }
+    requires count_small { count ≤ 1000000000 }
 {
     let mut sum: u32 = 0;
     let mut i: usize = 0;

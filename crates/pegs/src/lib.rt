@@ -1,4 +1,7 @@
 // Request A.5: the rows of a list of pegs, in one walk along the three lists of an accepted road.
+
+#![tactic(auto)]
+
 ghost use Rattle.std.specs.Prelude.{◌≡◌, ◌*◌, ◌≤◌, length};
 ghost use Rattle.road.specs.Exact.{total};
 ghost use Rattle.road.specs.Held.{road_in};
@@ -13,9 +16,9 @@ use road::{AcceptedRoad, RowAnswer};
 // The rows of pegs that are all good, from the start of the buffer on; their length. The place on the three lists moves forward only, and a segment
 // serves all pegs up to its joint.
 fn put_rows(road: AcceptedRoad, stations: &[u64], out: &mut [u8]) -> usize
-    requires fact_1 { RoadReady road }
-    requires fact_2 { Good (total (road_in road.alignment)) stations.now }
-    requires fact_3 { 96 * length stations.now ≤ length out.old }
+    requires ready { RoadReady road }
+    requires good { Good (total (road_in road.alignment)) stations.now }
+    requires room { 96 * length stations.now ≤ length out.old }
     ensures value { result ≡ length (lines (road_in road.alignment) stations.now) }
     ensures out_after { out.new ≡ overwrite (lines (road_in road.alignment) stations.now) out.old }
 {

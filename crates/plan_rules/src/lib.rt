@@ -1,4 +1,7 @@
 // The rules of the plan: tests of an element with those beside it, 12 and 23 by `clothoid_rules`.
+
+#![tactic(auto)]
+
 ghost use Rattle.std.specs.Prelude.{◌≡◌, ◌+◌, ◌≤◌};
 ghost use Rattle.limits.specs.Row.{as_limits};
 ghost use Rattle.road.specs.declared.ElementRule.{ElementRule};
@@ -83,8 +86,8 @@ pub fn number_of(rule: ElementRule) -> u32
 // How many places a rule looks at in a list of so many items.
 pub fn places_of(rule: ElementRule, count: usize) -> usize
     requires { count ≤ 200 }
-    ensures fact_1 { result ≡ (element_test rule).places count }
-    ensures fact_2 { result ≤ count + 1 }
+    ensures places { result ≡ (element_test rule).places count }
+    ensures within { result ≤ count + 1 }
 {
     match rule {
         ElementRule::PlanLength => count,

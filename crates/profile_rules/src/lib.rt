@@ -1,4 +1,7 @@
 // The rules of the profile: tests of a tangent with those beside it.
+
+#![tactic(auto)]
+
 ghost use Rattle.std.specs.Prelude.{◌≡◌, ◌≤◌};
 ghost use Rattle.limits.specs.Row.{as_limits};
 ghost use Rattle.road.specs.Base.{if◌then◌else◌};
@@ -49,8 +52,8 @@ pub fn number_of(rule: TangentRule) -> u32
 
 // How many places a rule looks at in a list of so many items.
 pub fn places_of(rule: TangentRule, count: usize) -> usize
-    ensures fact_1 { result ≡ (tangent_test rule).places count }
-    ensures fact_2 { result ≤ count }
+    ensures places { result ≡ (tangent_test rule).places count }
+    ensures within { result ≤ count }
 {
     match rule {
         TangentRule::SteepTangent => count,

@@ -1,4 +1,7 @@
 // The reading place: the caller's bytes, held and not copied, and a position in them that moves past each number.
+
+#![tactic(auto)]
+
 ghost use Rattle.std.specs.Prelude.{◌≡◌};
 ghost use Rattle.file_numbers.specs.Number.{number};
 ghost use Rattle.file_numbers.specs.Meaning.{meaning};
@@ -6,14 +9,14 @@ ghost use Rattle.reader.specs.Following.{place_after, ThreeRead};
 
 use file_numbers::Number;
 
-#[derive(Drop)]
+#[derive(Clone, Copy)]
 pub struct Reader<'a> {
     pub src: &'a [u8],
     pub at: usize,
 }
 
 // Three numbers, one behind another.
-#[derive(Drop)]
+#[derive(Clone, Copy)]
 pub struct ThreeNumbers {
     pub first: Number,
     pub second: Number,

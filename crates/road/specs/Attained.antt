@@ -5,7 +5,7 @@ use Rattle.std.proofs.Common.{sym, subst, arith, lt-ltb, ltb-true}
 use mathlib.Core.List.{List, [], ◌∷◌, Memᴰ}
 use Rattle.file_numbers.specs.Reading.{got}
 use Rattle.file_numbers.specs.Number.{shortest, written}
-use Rattle.integers.specs.Fraction.{Frac, whole, ◌_ᶠ◌, size, ◌≤ᶠ◌, ◌≈ᶠ◌}
+use Rattle.integers.specs.Fraction.{Frac, whole, ◌-ᶠ◌, size, ◌≤ᶠ◌, ◌≈ᶠ◌}
 use Rattle.road.specs.Base.{joined}
 use Rattle.laws_of_lists.specs.Tests.{true_false, and_both, or_left, or_right}
 use Rattle.road.specs.Text.{printed_line}

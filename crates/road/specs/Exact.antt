@@ -2,7 +2,7 @@
 use Rattle.std.specs.Prelude.{ℕ, zero, suc, ◌+◌, ◌*◌, ◌-◌, List, [], ◌∷◌, Bool, ◌&&◌, length, take, get_or, leb, ltb, eqb, ℤ, pos, ◌+ℤ◌, ◌-ℤ◌, ◌*ℤ◌}
 use Rattle.std.proofs.Math.Option.{Option, none, some}
 use Rattle.road.specs.Base.{if◌then◌else◌, first_that, last_that, sum_of}
-use Rattle.integers.specs.Fraction.{Frac, ◌÷◌, whole, ◌over◌, ◌+ᶠ◌, ◌_ᶠ◌, ◌×ᶠ◌}
+use Rattle.integers.specs.Fraction.{Frac, ◌÷◌, whole, ◌over◌, ◌+ᶠ◌, ◌-ᶠ◌, ◌×ᶠ◌}
 use Rattle.road.specs.File.{Road}
 use Rattle.road.specs.Lane.{lane_width}
 use Rattle.road.specs.declared.Element.{Element}

@@ -1,7 +1,10 @@
 // The declared types that the definitions of specs/ speak of.
 
+#![tactic(auto)]
+
+
 // An element of the plan: kind 0 straight, 1 arc, 2 clothoid; the radius of what is no arc is 0.
-#[derive(Drop)]
+#[derive(Clone, Copy)]
 pub struct Element {
     pub kind: u32,
     pub length: u32,
@@ -9,7 +12,7 @@ pub struct Element {
 }
 
 // A tangent of the profile, with the half length of the vertical curve that follows it; 0 after the last.
-#[derive(Drop)]
+#[derive(Clone, Copy)]
 pub struct Tangent {
     pub length: u32,
     pub grade: i32,
@@ -17,7 +20,7 @@ pub struct Tangent {
 }
 
 // A crossfall point.
-#[derive(Drop)]
+#[derive(Clone, Copy)]
 pub struct Crossfall {
     pub station: u32,
     pub left: i32,
@@ -25,21 +28,21 @@ pub struct Crossfall {
 }
 
 // What a file says of its contract: no date, or the day on which it was made.
-#[derive(Drop)]
+#[derive(Clone, Copy)]
 pub enum Contract {
     Undated,
     Dated(u32),
 }
 
 // What refusal 12 asks of a clothoid: a least parameter A, or a least length.
-#[derive(Drop)]
+#[derive(Clone, Copy)]
 pub enum LeastClothoid {
     Parameter(u32),
     Length(u32),
 }
 
 // What a file says before its three lists.
-#[derive(Drop)]
+#[derive(Clone, Copy)]
 pub struct Head {
     pub contract: Contract,
     pub class: u32,
@@ -49,7 +52,7 @@ pub struct Head {
 }
 
 // An alignment is held as three lists with their counts.
-#[derive(Drop)]
+#[derive(Clone, Copy)]
 pub struct Alignment {
     pub head: Head,
     pub elements: [Element; 200],
@@ -62,7 +65,7 @@ pub struct Alignment {
 }
 
 // An accepted road: its alignment, and what every caller asks of it, the lane width and T.
-#[derive(Drop)]
+#[derive(Clone, Copy)]
 pub struct AcceptedRoad {
     pub alignment: Alignment,
     pub lane: u32,
@@ -70,7 +73,7 @@ pub struct AcceptedRoad {
 }
 
 // The rules of an element with those beside it.
-#[derive(Drop)]
+#[derive(Clone, Copy)]
 pub enum ElementRule {
     PlanLength,
     Kinds,
@@ -82,7 +85,7 @@ pub enum ElementRule {
 }
 
 // The rules of a tangent with those beside it.
-#[derive(Drop)]
+#[derive(Clone, Copy)]
 pub enum TangentRule {
     SteepTangent,
     ShortTangent,
@@ -90,7 +93,7 @@ pub enum TangentRule {
 }
 
 // The rules of a crossfall point with those beside it.
-#[derive(Drop)]
+#[derive(Clone, Copy)]
 pub enum PointRule {
     MisplacedPoint,
     WrongCrossfall,
@@ -98,7 +101,7 @@ pub enum PointRule {
 }
 
 // The rules of a road: those of the items of one list, and three that look further.
-#[derive(Drop)]
+#[derive(Clone, Copy)]
 pub enum Rule {
     Element(ElementRule),
     OtherTotal,
@@ -109,14 +112,14 @@ pub enum Rule {
 }
 
 // The answer of a row call: a refusal and its place, or the line's length.
-#[derive(Drop)]
+#[derive(Clone, Copy)]
 pub enum RowAnswer {
     Refused(u32, usize),
     Length(usize),
 }
 
 // The answer of a next call: a refusal and its place, a station, or that there is none.
-#[derive(Drop)]
+#[derive(Clone, Copy)]
 pub enum NextAnswer {
     Refused(u32, usize),
     Station(u64),

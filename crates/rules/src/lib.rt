@@ -1,4 +1,7 @@
 // Refusals 5 to 19 and 23 of an alignment: the rules are tried in their order, and the first item that breaks one is named.
+
+#![tactic(auto)]
+
 ghost use Rattle.std.specs.Prelude.{◌≡◌, true, length};
 ghost use Rattle.road.specs.Base.{first_that};
 ghost use Rattle.road.specs.Exact.{tangent_start, total};
@@ -35,13 +38,13 @@ pub const ORDER: [Rule; 16] = [
     Rule::Superelevation,
 ];
 
-#[derive(Drop)]
+#[derive(Clone, Copy)]
 pub enum Found {
     At(usize),
     Nothing,
 }
 
-#[derive(Drop)]
+#[derive(Clone, Copy)]
 pub enum Verdict {
     Breaks(u32, usize),
     Passes,
@@ -84,8 +87,8 @@ fn profile_length(a: Alignment) -> u64
 
 // 6
 fn other_total(a: Alignment, whole: u64) -> Found
-    requires fact_1 { Counted a }
-    requires fact_2 { whole ≡ total (road_in a) }
+    requires counted { Counted a }
+    requires whole_is_total { whole ≡ total (road_in a) }
     ensures { as_option result ≡ first_that (λ i. other_total (road_in a)) 1 }
 {
     if profile_length(a) == whole {
@@ -169,8 +172,8 @@ fn first_element(a: Alignment, l: Limits, rule: ElementRule) -> Found
 
 // The same, where it is known whether the plan is kept.
 fn first_in_plan(a: Alignment, l: Limits, kept: bool, rule: ElementRule) -> Found
-    requires fact_1 { Counted a }
-    requires fact_2 { (kept ≡ true → PlanKept (as_limits l) (road_in a)) }
+    requires counted { Counted a }
+    requires order_kept { (kept ≡ true → PlanKept (as_limits l) (road_in a)) }
     ensures { as_option result ≡ first_broken (ruled.Element rule) (as_limits l) (road_in a) }
 {
     if kept {
@@ -182,8 +185,8 @@ fn first_in_plan(a: Alignment, l: Limits, kept: bool, rule: ElementRule) -> Foun
 
 // 9, where the kinds run as they must: the nearest arc after a straight is the second element from it
 fn first_straight(a: Alignment, l: Limits) -> Found
-    requires fact_1 { Counted a }
-    requires fact_2 { PlanOrder (road_in a) }
+    requires counted { Counted a }
+    requires order { PlanOrder (road_in a) }
     ensures { as_option result ≡ first_broken ruled.ShortStraight (as_limits l) (road_in a) }
 {
     let elements = a.elements;
@@ -240,8 +243,8 @@ fn first_tangent(a: Alignment, l: Limits, rule: TangentRule) -> Found
 }
 
 fn first_point(a: Alignment, l: Limits, whole: u64, rule: PointRule) -> Found
-    requires fact_1 { Counted a }
-    requires fact_2 { whole ≡ total (road_in a) }
+    requires counted { Counted a }
+    requires whole_is_total { whole ≡ total (road_in a) }
     ensures { as_option result ≡ first_broken (ruled.Point rule) (as_limits l) (road_in a) }
 {
     let head = a.head;
@@ -281,8 +284,8 @@ fn first_point(a: Alignment, l: Limits, whole: u64, rule: PointRule) -> Found
 
 // 19, where the points ascend: elements and pairs of points are passed together, each once
 fn first_arc(a: Alignment, l: Limits) -> Found
-    requires fact_1 { Counted a }
-    requires fact_2 { PointOrder (road_in a) }
+    requires counted { Counted a }
+    requires order { PointOrder (road_in a) }
     ensures { as_option result ≡ first_broken ruled.Superelevation (as_limits l) (road_in a) }
 {
     let elements = a.elements;
@@ -324,10 +327,10 @@ fn first_arc(a: Alignment, l: Limits) -> Found
 // ---- the rules in their order
 
 fn first_of(a: Alignment, l: Limits, whole: u64, kept: bool, rule: Rule) -> Found
-    requires fact_1 { Counted a }
-    requires fact_2 { Tried rule (as_limits l) (road_in a) }
-    requires fact_3 { (kept ≡ true → PlanKept (as_limits l) (road_in a)) }
-    requires fact_4 { whole ≡ total (road_in a) }
+    requires counted { Counted a }
+    requires is_tried { Tried rule (as_limits l) (road_in a) }
+    requires order_kept { (kept ≡ true → PlanKept (as_limits l) (road_in a)) }
+    requires whole_is_total { whole ≡ total (road_in a) }
     ensures { as_option result ≡ first_broken rule (as_limits l) (road_in a) }
 {
     match rule {

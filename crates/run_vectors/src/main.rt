@@ -1,4 +1,7 @@
 // Makes the runs of the vectors: lists of calls of the two routines on one file and one buffer. Prints each answer and every byte of the buffer after each call.
+
+#![tactic(auto)]
+
 use road::{NextAnswer, RowAnswer};
 
 fn hex_digit(n: u8) -> u8 {

@@ -4,7 +4,7 @@ use mathlib.Core.List.{List, [], ◌∷◌, map}
 use Prim.Native.Nat.{ℕ, ◌≤◌}
 use native.Mathlib.Omega.{arith}
 use lib.ListN.{get_or, replicate}
-use Rattle.integers.specs.Fraction.{◌_ᶠ◌, size, ◌≤ᶠ◌}
+use Rattle.integers.specs.Fraction.{◌-ᶠ◌, size, ◌≤ᶠ◌}
 use Rattle.road.specs.Text.{printed_line}
 use Rattle.road.specs.Exact.{Side, edge}
 use Rattle.road.specs.Blade.{Neighbouring, blade, bound}

@@ -9,7 +9,7 @@ use native.Mathlib.Nat.{suc-mul, zero-mul}
 use lib.ListN.{length, get_or, length-append, length-map}
 use Rattle.file_numbers.specs.Reading.{got, refused}
 use Rattle.road.specs.File.{Road}
-use Rattle.integers.specs.Fraction.{◌_ᶠ◌, size, ◌≤ᶠ◌}
+use Rattle.integers.specs.Fraction.{◌-ᶠ◌, size, ◌≤ᶠ◌}
 use Rattle.road.specs.Exact.{Side, total, edge}
 use Rattle.road.specs.Blade.{blade, bound}
 use Rattle.road.specs.Demand.{printed_height}

@@ -2,7 +2,7 @@
 use Rattle.std.specs.Prelude.{ℕ, ◌*◌, ◌<◌, ◌≤◌, ◌≡◌, length, take, drop, get_or, replicate}
 use mathlib.Core.List.{List, Memᴰ}
 use Rattle.file_numbers.specs.Reading.{got}
-use Rattle.integers.specs.Fraction.{◌_ᶠ◌, size, ◌≤ᶠ◌}
+use Rattle.integers.specs.Fraction.{◌-ᶠ◌, size, ◌≤ᶠ◌}
 use Rattle.road.specs.File.{Road}
 use Rattle.road.specs.Exact.{Side, edge}
 use Rattle.road.specs.Rules.{accepted}

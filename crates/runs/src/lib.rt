@@ -1,4 +1,7 @@
 // Any list of calls of the two routines on one file and one buffer, with all that is seen after each call written down.
+
+#![tactic(auto)]
+
 ghost use Rattle.std.specs.Prelude.{◌≡◌, true, false, ◌++◌, ℕ, ◌+◌, ◌*◌, ◌≤◌, eqb, length, take, drop};
 ghost use Rattle.file_numbers.specs.Reading.{refused};
 ghost use Rattle.road.specs.Rules.{accepted};
@@ -12,7 +15,7 @@ ghost use Rattle.runs.specs.Listing.{ListingRecorded};
 use road::{NextAnswer, RowAnswer};
 
 // An answer as three numbers: 0 a refusal, 1 a line's length, 2 a station, 3 no station; then what it says.
-#[derive(Drop)]
+#[derive(Clone, Copy)]
 pub struct AnswerNumbers {
     pub code: u8,
     pub first: u64,

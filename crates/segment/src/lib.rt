@@ -1,4 +1,7 @@
 // The printed numbers and the line of a station, from the numbers of the segment that it lies on.
+
+#![tactic(auto)]
+
 ghost use Rattle.std.specs.Prelude.{◌≡◌, ◌+◌, ◌*◌, ◌-◌, ◌≤◌, ◌<◌, pos, ◌+ℤ◌, ◌-ℤ◌, ◌*ℤ◌, nat_abs, length};
 ghost use Rattle.integers.specs.Fraction.{◌÷◌, ◌+ᶠ◌, ◌×ᶠ◌};
 ghost use Rattle.integers.specs.Rounding.{nearest_size, rounded};
@@ -9,14 +12,14 @@ ghost use Rattle.segment.specs.Line.{four};
 ghost use Rattle.segment.specs.Sizes.{InCurve, OfEnd, OnEgg, EggSizes, OfLane, OnSide, lane_of};
 
 // The curvature at an end of an element, turn / radius: of an arc 10⁹ with the radius' sign over the radius' size, of a straight 0 over 1.
-#[derive(Drop)]
+#[derive(Clone, Copy)]
 pub struct End {
     pub turn: i64,
     pub radius: i64,
 }
 
 // A segment of the road, with no joint inside, as numbers only: all that the rows up to its end need.
-#[derive(Drop)]
+#[derive(Clone, Copy)]
 pub struct Segment {
     // where the segment's tangent or vertical curve begins
     pub from: i64,
@@ -43,7 +46,7 @@ pub struct Segment {
 }
 
 // The eight numbers of a row.
-#[derive(Drop)]
+#[derive(Clone, Copy)]
 pub struct Numbers {
     pub station: i64,
     pub height: i64,
@@ -56,7 +59,7 @@ pub struct Numbers {
 }
 
 // A side's crossfall and its edge's drop.
-#[derive(Drop)]
+#[derive(Clone, Copy)]
 pub struct Lane {
     pub crossfall: i64,
     pub drop: i64,
@@ -64,8 +67,8 @@ pub struct Lane {
 
 // The distance from a place to a station.
 fn distance(from: i64, x: u64) -> i64
-    requires fact_1 { x ≤ 100000000 }
-    requires fact_2 { nat_abs (past from x) ≤ 1000000000 }
+    requires station_small { x ≤ 100000000 }
+    requires near { nat_abs (past from x) ≤ 1000000000 }
     ensures { result ≡ past from x }
 {
     x as i64 - from
@@ -81,9 +84,9 @@ fn along(start: i64, slope: i64, distance: i64) -> i64
 
 // The same at a station.
 fn line_at(start: i64, slope: i64, from: i64, x: u64) -> i64
-    requires fact_1 { x ≤ 100000000 }
-    requires fact_2 { nat_abs (past from x) ≤ 1000000000 }
-    requires fact_3 { nat_abs start + nat_abs slope * nat_abs (past from x) < 9223372036854775808 }
+    requires station_small { x ≤ 100000000 }
+    requires near { nat_abs (past from x) ≤ 1000000000 }
+    requires fits { nat_abs start + nat_abs slope * nat_abs (past from x) < 9223372036854775808 }
     ensures { result ≡ start +ℤ slope *ℤ past from x }
 {
     along(start, slope, distance(from, x))
@@ -155,8 +158,8 @@ fn size_of(turn: i64) -> u64
 // The size of an egg's curvature, of its radii at start and end. Its fraction does not fit; what each end gives does, and so do both rests over one denominator.
 fn egg_size(turn: u64, first: u64, second: u64, length: u64, past: u64) -> u64
     requires { EggSizes turn first second length past }
-    ensures fact_1 { result ≡ nearest_size (turn * (second * (length - past) + first * past)) (first * second * length) }
-    ensures fact_2 { result ≤ 1000000000 }
+    ensures value { result ≡ nearest_size (turn * (second * (length - past) + first * past)) (first * second * length) }
+    ensures most { result ≤ 1000000000 }
 {
     let from_start = turn * (length - past);
     let from_end = turn * past;
@@ -269,8 +272,8 @@ fn put_four(
     d: i64,
     after: u8,
 ) -> usize
-    requires fact_1 { pairs.now ≡ pair_table }
-    requires fact_2 { at + length (four a b c d after) ≤ length out.old }
+    requires table { pairs.now ≡ pair_table }
+    requires room { at + length (four a b c d after) ≤ length out.old }
     ensures { Wrote out.old out.new at (four a b c d after) result }
 {
     let second = decimal::put_field(pairs, out, at, a, 32);
@@ -281,11 +284,11 @@ fn put_four(
 
 // Writes the line of a station from `at` on, and returns the place after it.
 pub fn put_line(pairs: &[u8; 200], s: Segment, x: u64, out: &mut [u8], at: usize) -> usize
-    requires fact_1 { pairs.now ≡ pair_table }
-    requires fact_2 { Sound s x }
-    requires fact_3 { at + 96 ≤ length out.old }
-    ensures fact_1 { Wrote out.old out.new at (line_in s x) result }
-    ensures fact_2 { result ≤ at + 96 }
+    requires table { pairs.now ≡ pair_table }
+    requires sound { Sound s x }
+    requires room { at + 96 ≤ length out.old }
+    ensures wrote { Wrote out.old out.new at (line_in s x) result }
+    ensures most { result ≤ at + 96 }
 {
     let n = numbers_at(s, x);
     let half = put_four(pairs, out, at, n.station, n.height, n.grade, n.left, 32);

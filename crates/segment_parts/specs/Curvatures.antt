@@ -5,7 +5,7 @@ use Rattle.std.proofs.Math.Decide.{ℕ_discrete, dec_lt}
 use Rattle.std.proofs.Math.ListN.{get_or-eq_default}
 use Rattle.integers.specs.Bridge.{nat, lt! }
 use Rattle.integers.specs.Ring.{◌:+◌, ◌:-◌, ◌:*◌, ring, $}
-use Rattle.integers.specs.Fraction.{Frac, ◌÷◌, whole, ◌+ᶠ◌, ◌_ᶠ◌, ◌×ᶠ◌, ◌≈ᶠ◌}
+use Rattle.integers.specs.Fraction.{Frac, ◌÷◌, whole, ◌+ᶠ◌, ◌-ᶠ◌, ◌×ᶠ◌, ◌≈ᶠ◌}
 use Rattle.integers.specs.Values.{◌then◌, same-value, positive-mul}
 use Rattle.integers.specs.Width.{above_zero}
 use Rattle.road.specs.Rules.{right_turn, left_turn, same_turn, element_before}

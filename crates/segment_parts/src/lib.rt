@@ -1,4 +1,7 @@
 // The parts of a segment, each made of the items that it needs: no array, so that a cursor over any list calls these.
+
+#![tactic(auto)]
+
 ghost use Rattle.std.specs.Prelude.{◌≡◌, ◌≤◌, min, pos, nat_abs, ◌-ℤ◌, ◌*ℤ◌};
 ghost use Rattle.segment_parts.specs.Tangents.{first_place, next_place, Sized};
 ghost use Rattle.segment_parts.specs.Pieces.{curve_from, curve_before, curve_after, straight_part, PieceFrom};
@@ -10,7 +13,7 @@ use road::{Crossfall, Element, Tangent};
 use segment::{End, Segment};
 
 // The place of a tangent: which it is, where it begins, the height there in millionths of a millimetre, and the half length and the grade before it.
-#[derive(Drop)]
+#[derive(Clone, Copy)]
 pub struct TangentPlace {
     pub index: usize,
     pub begin: u64,
@@ -20,7 +23,7 @@ pub struct TangentPlace {
 }
 
 // The straight part of a tangent or the vertical curve that has a station, and the station where it ends.
-#[derive(Drop)]
+#[derive(Clone, Copy)]
 pub struct Piece {
     pub from: i64,
     pub height: i64,
@@ -31,7 +34,7 @@ pub struct Piece {
 }
 
 // A crossfall point, the distance to the next, the crossfalls and their changes.
-#[derive(Drop)]
+#[derive(Clone, Copy)]
 pub struct Sides {
     pub point: i64,
     pub span: i64,
@@ -42,7 +45,7 @@ pub struct Sides {
 }
 
 // The curvature of an element of a length, at its start and at its end.
-#[derive(Drop)]
+#[derive(Clone, Copy)]
 pub struct Curvature {
     pub length: i64,
     pub start: End,

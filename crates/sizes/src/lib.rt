@@ -1,4 +1,7 @@
 // Numbers of 32 bits: differences, sizes, and how two of them lie to each other.
+
+#![tactic(auto)]
+
 ghost use Rattle.std.specs.Prelude.{◌≡◌, ◌+◌, ◌*◌, ◌-◌, ◌<◌, pos, nat_abs, neg_ℤ, ◌-ℤ◌, eqb, ltb};
 ghost use Rattle.std.specs.Int.Signed.{lt_z};
 
@@ -70,7 +73,7 @@ pub fn product(x: u32, y: u32) -> u64
 }
 
 // A number of up to 96 bits: high × 2³² + low.
-#[derive(Drop)]
+#[derive(Clone, Copy)]
 pub struct Wide {
     pub high: u64,
     pub low: u64,
@@ -78,8 +81,8 @@ pub struct Wide {
 
 // The product of a number of 64 bits and one of 32.
 fn wide_product(x: u64, y: u32) -> Wide
-    ensures fact_1 { result.high * 4294967296 + result.low ≡ x * y }
-    ensures fact_2 { result.low < 4294967296 }
+    ensures product { result.high * 4294967296 + result.low ≡ x * y }
+    ensures low { result.low < 4294967296 }
 {
     let upper = x / 4294967296 * y as u64;
     let lower = x % 4294967296 * y as u64;

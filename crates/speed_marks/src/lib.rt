@@ -1,4 +1,7 @@
 // Which speeds a road would pass: the file is read once, and judged under the limits of each of the seven speeds.
+
+#![tactic(auto)]
+
 ghost use Rattle.std.specs.Prelude.{◌≡◌};
 ghost use Rattle.road.specs.Held.{road_in, Counted};
 ghost use Rattle.speed_marks.specs.Marks.{stands, bit, marks, of_marks, marks_answer};
@@ -11,7 +14,7 @@ use rules::Verdict;
 pub const SPEEDS: [u32; 7] = [40, 50, 60, 70, 80, 90, 100];
 
 // A refusal and its place, or the seven marks, 40 km/h in the lowest bit.
-#[derive(Drop)]
+#[derive(Clone, Copy)]
 pub enum MarksAnswer {
     Refused(u32, usize),
     Marks(u32),

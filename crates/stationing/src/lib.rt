@@ -1,4 +1,7 @@
 // The two public routines: the row of a station, and the next listed station.
+
+#![tactic(auto)]
+
 ghost use Rattle.std.specs.Prelude.{◌≡◌, length, ◌≤◌};
 ghost use Rattle.road.specs.Held.{road_in};
 ghost use Rattle.road.specs.Machine.{of_row, of_next, row_of, buffer_of, next_of, overwrite, row_answer, row_buffer, next_answer};
@@ -12,9 +15,9 @@ use road::{AcceptedRoad, NextAnswer, RowAnswer};
 
 // The line of a station of an accepted road, from the start of the buffer on; its length.
 fn put_row(road: AcceptedRoad, station: u64, line: &mut [u8]) -> usize
-    requires fact_1 { RoadReady road }
-    requires fact_2 { station ≤ total (road_in road.alignment) }
-    requires fact_3 { 96 ≤ length line.old }
+    requires ready { RoadReady road }
+    requires on_road { station ≤ total (road_in road.alignment) }
+    requires room { 96 ≤ length line.old }
     ensures value { result ≡ length (line_at (road_in road.alignment) station) }
     ensures line_after { line.new ≡ overwrite (line_at (road_in road.alignment) station) line.old }
 {

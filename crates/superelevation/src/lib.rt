@@ -1,4 +1,7 @@
 // Rule 19, as far as a crossfall point and the next show it: whether the crossfall changes on an arc, and whether it is right at its start.
+
+#![tactic(auto)]
+
 ghost use Rattle.std.specs.Prelude.{◌≡◌};
 ghost use Rattle.limits.specs.Row.{as_limits};
 ghost use Rattle.road.specs.Exact.{crossfall_of};

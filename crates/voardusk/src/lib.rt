@@ -1,6 +1,9 @@
 // The routines for programs in other languages: the row of a station, the next listed station, many rows at a time, the speeds at which a road would pass,
 // the rows of a list of pegs.
 // Each returns 0, or a refusal's number with its place in `answer`.
+
+#![tactic(auto)]
+
 ghost use Rattle.std.specs.Prelude.{◌≡◌, length};
 ghost use Rattle.road.specs.Machine.{row_answer, row_buffer, next_answer};
 ghost use Rattle.listing.specs.Chunks.{list_answer, list_buffer};

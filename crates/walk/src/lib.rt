@@ -1,4 +1,7 @@
 // The rows of the listed stations in one walk along the three lists of an accepted road.
+
+#![tactic(auto)]
+
 ghost use Rattle.std.specs.Prelude.{◌≡◌, ◌≤◌, min, length};
 ghost use mathlib.Core.List.{Memᴰ};
 ghost use Rattle.road.specs.Listed.{listed};
@@ -13,21 +16,21 @@ use next_listed::Least;
 use road::AcceptedRoad;
 
 // How a list goes on: from a station, or that it is done.
-#[derive(Drop)]
+#[derive(Clone, Copy)]
 pub enum Onward {
     From(u64),
     Done,
 }
 
 // How many bytes were written, and how the list goes on.
-#[derive(Drop)]
+#[derive(Clone, Copy)]
 pub struct Chunk {
     pub bytes: usize,
     pub next: Onward,
 }
 
 // A walk along the listed stations: where it stands, the next multiple of step, and the segment there with its joint.
-#[derive(Drop)]
+#[derive(Clone, Copy)]
 pub struct Walk {
     pub station: u64,
     pub multiple: u64,
@@ -51,9 +54,9 @@ pub fn step_of(road: AcceptedRoad) -> u64
 
 // The walk at a listed station, from a place at or before it.
 fn walk_at(road: AcceptedRoad, place: Place, x: u64) -> Walk
-    requires fact_1 { RoadReady road }
-    requires fact_2 { PlaceReached (road_in road.alignment) place x }
-    requires fact_3 { Memᴰ x (listed (road_in road.alignment)) }
+    requires ready { RoadReady road }
+    requires reached { PlaceReached (road_in road.alignment) place x }
+    requires is_listed { Memᴰ x (listed (road_in road.alignment)) }
     ensures { Entered (road_in road.alignment) x result }
 {
     let step = step_of(road);
@@ -68,8 +71,8 @@ fn walk_at(road: AcceptedRoad, place: Place, x: u64) -> Walk
 
 // The walk begun at a listed station.
 pub fn begin(road: AcceptedRoad, first: u64) -> Walk
-    requires fact_1 { RoadReady road }
-    requires fact_2 { Memᴰ first (listed (road_in road.alignment)) }
+    requires ready { RoadReady road }
+    requires is_listed { Memᴰ first (listed (road_in road.alignment)) }
     ensures { Entered (road_in road.alignment) first result }
 {
     let alignment = road.alignment;
@@ -78,8 +81,8 @@ pub fn begin(road: AcceptedRoad, first: u64) -> Walk
 
 // One station on: the next multiple of step, or the joint where that is not beyond it.
 pub fn move_on(w: Walk, step: u64) -> Walk
-    requires fact_1 { w.multiple ≤ 1000000000 }
-    requires fact_2 { step ≤ 100000 }
+    requires multiple_small { w.multiple ≤ 1000000000 }
+    requires step_small { step ≤ 100000 }
     ensures { result ≡ moved step w }
 {
     let view = w.view;
@@ -93,8 +96,8 @@ pub fn move_on(w: Walk, step: u64) -> Walk
 
 // The next segment, for a walk that stands at the joint; past T there is none.
 pub fn next_segment(road: AcceptedRoad, w: Walk) -> Walk
-    requires fact_1 { RoadReady road }
-    requires fact_2 { Stands (road_in road.alignment) w }
+    requires ready { RoadReady road }
+    requires stands { Stands (road_in road.alignment) w }
     ensures { Entered (road_in road.alignment) w.station result }
 {
     if road.total < w.station {
@@ -106,8 +109,8 @@ pub fn next_segment(road: AcceptedRoad, w: Walk) -> Walk
 
 // The rows from a listed station on, as long as at least 96 bytes remain.
 fn rows_on(road: AcceptedRoad, first: u64, out: &mut [u8]) -> Chunk
-    requires fact_1 { RoadReady road }
-    requires fact_2 { Memᴰ first (listed (road_in road.alignment)) }
+    requires ready { RoadReady road }
+    requires is_listed { Memᴰ first (listed (road_in road.alignment)) }
     ensures value { result ≡ answer (chunk (road_in road.alignment) first (length out.old)) }
     ensures out_after { out.new ≡ overwrite (chunk (road_in road.alignment) first (length out.old)).text out.old }
 {
