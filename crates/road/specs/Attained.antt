@@ -75,6 +75,7 @@ one_between a b [] = false
 one_between a b (x ∷ l) = (ltb a x && ltb x b) || one_between a b l
 
 none_between : (a b : ℕ) (l : List ℕ) → one_between a b l ≡ false → (x : ℕ) → Memᴰ x l → a < x → x < b → ⊥
+none_between a b [] t x m low high = elim m [ ]
 none_between a b (y ∷ l) t x (Memᴰ.head e) low high =
     true_false (ltb a y && ltb y b) (and_both (ltb a y) (ltb y b) (lt-ltb a y (omega arith)) (lt-ltb y b (omega arith))) (or_left (ltb a y && ltb y b) (one_between a b l) t)
 none_between a b (y ∷ l) t x (Memᴰ.tail m) low high = none_between a b l (or_right (ltb a y && ltb y b) (one_between a b l) t) x m low high
