@@ -45,14 +45,15 @@ pub record At {A : Type 0} (d : A) (l : List A) (a : A) : Type 0 where
   pub within : place < length l
   pub is : a ≡ get_or l place d
 
-pub item_from : {A : Type 0} (d : A) {l : List A} {a : A} → Memᴰ a l → At d l a
+pub item_from : {A : Type 0} (d : A) {a : A} {l : List A} → Memᴰ a l → At d l a
 item_from d (Memᴰ.head e) = record { place = 0; within = omega arith; is = e }
 item_from d (Memᴰ.tail m) = let t = item_from d m in let h = t.within in record { place = suc t.place; within = omega arith; is = t.is }
 
 -- what each item gives, one behind another
-pub joined_has : {A : Type 0} (f : A → List ℕ) {l : List A} {a : A} {x : ℕ} → Memᴰ a l → Memᴰ x (f a) → Memᴰ x (joined f l)
+pub joined_has : {A : Type 0} (f : A → List ℕ) {a : A} {l : List A} {x : ℕ} → Memᴰ a l → Memᴰ x (f a) → Memᴰ x (joined f l)
 unfolding joined
-joined_has f {l = b ∷ l} {a} {x} (Memᴰ.head e) m = Memᴰ.append_left (joined f l) (subst (λ (c : _). Memᴰ x (f c)) e m)
+joined_has f {l = []} n m = elim n [ ]
+joined_has f {a = a} {l = b ∷ l} {x = x} (Memᴰ.head e) m = Memᴰ.append_left (joined f l) (subst (λ (c : _). Memᴰ x (f c)) e m)
 joined_has f {l = b ∷ l} (Memᴰ.tail n) m = Memᴰ.append_right (f b) (joined_has f n m)
 
 pub record Gives {A : Type 0} (f : A → List ℕ) (l : List A) (x : ℕ) : Type 0 where
