@@ -24,7 +24,7 @@ fn days_below(end: u32) -> u32
     count
 }
 
-fn main() {
-    io::print_decimal(1, days_below(30000001) as u64);
-    io::write_all(1, b"\n");
+fn main(rt: HostRuntime) {
+    let count = days_below(30000001);
+    let _ = println!(rt; "{count}");
 }
