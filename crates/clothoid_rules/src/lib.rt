@@ -20,6 +20,7 @@ pub fn are_same_turn(a: i32, b: i32) -> bool
 }
 
 // 23, of an egg
+#[tactic(auto, unfolding(road::specs::Rules::wrong_egg))]
 fn is_wrong_egg(first: i32, second: i32) -> bool
     ensures { result ≡ wrong_egg first second }
 {
@@ -29,6 +30,7 @@ fn is_wrong_egg(first: i32, second: i32) -> bool
 }
 
 // 23: a clothoid before an arc, with an arc or with a clothoid and an arc before it
+#[tactic(auto, unfolding(road::specs::Rules::wrong_link))]
 pub fn is_wrong_link(earlier: Element, before: Element, e: Element, after: Element) -> bool
     ensures { result ≡ wrong_link earlier before e after }
 {
@@ -42,6 +44,7 @@ pub fn is_wrong_link(earlier: Element, before: Element, e: Element, after: Eleme
 }
 
 // The radius of the arc of a clothoid that has one.
+#[tactic(auto, unfolding(road::specs::Rules::own_arc))]
 fn own_arc(before: Element, after: Element) -> i32
     ensures { result ≡ own_arc before after }
 {
@@ -53,6 +56,7 @@ fn own_arc(before: Element, after: Element) -> i32
 }
 
 // Whether an egg's length times both radii falls short of the square of the parameter times their difference.
+#[tactic(auto, unfolding(road::specs::Rules::short_egg))]
 fn is_short_egg(parameter: u32, length: u32, first: i32, second: i32) -> bool
     ensures { result ≡ short_egg parameter length first second }
 {
@@ -67,6 +71,7 @@ fn is_short_egg(parameter: u32, length: u32, first: i32, second: i32) -> bool
 }
 
 // Whether the parameter of a clothoid of a length is below a least one.
+#[tactic(auto, unfolding(road::specs::Rules::below_parameter))]
 fn is_below_parameter(parameter: u32, length: u32, before: Element, after: Element) -> bool
     ensures { result ≡ below_parameter parameter length before after }
 {
@@ -78,6 +83,7 @@ fn is_below_parameter(parameter: u32, length: u32, before: Element, after: Eleme
 }
 
 // Whether a clothoid of a length falls short of what is asked of it.
+#[tactic(auto, unfolding(road::specs::Rules::too_short))]
 fn is_too_short(least: LeastClothoid, length: u32, before: Element, after: Element) -> bool
     ensures { result ≡ too_short least length before after }
 {
@@ -88,6 +94,7 @@ fn is_too_short(least: LeastClothoid, length: u32, before: Element, after: Eleme
 }
 
 // 12
+#[tactic(auto, unfolding(road::specs::Rules::short_clothoid))]
 pub fn is_short_clothoid(l: Limits, before: Element, e: Element, after: Element) -> bool
     ensures { result ≡ short_clothoid (as_limits l) before e after }
 {
