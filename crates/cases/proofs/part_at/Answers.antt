@@ -1,7 +1,5 @@
 -- The part after a length that was read, cut to the input.
-use mathlib.Core.Path.{◌≡◌, sym, ap, ◌∙◌, subst}
-use Prim.Native.Nat.{◌≤◌}
-use lib.ListN.{length}
+use Rattle.std.proofs.Common.{◌≡◌, sym, ap, ◌∙◌, subst, ◌≤◌, length}
 use Rattle.cases.specs.Cases.{part_at, within, part-inside}
 use Rattle.cases.specs.declared.Item.{Item}
 use Rattle.cases.specs.declared.Part.{Part}

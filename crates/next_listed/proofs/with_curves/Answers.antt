@@ -1,9 +1,5 @@
 -- One curve after another; the vertex is the sum of the lengths so far.
-use mathlib.Core.Path.{ap, ap₂, ◌∙◌}
-use Prim.Native.Nat.{ℕ, ◌+◌, ◌-◌, ◌<◌}
-use native.Mathlib.Omega.{arith}
-use native.Mathlib.Numerals.{add-one}
-use borrow.Author.Rules.{rules}
+use Rattle.std.proofs.Common.{ap, ap₂, ◌∙◌, ℕ, ◌+◌, ◌-◌, ◌<◌, arith, add-one, rules}
 use Rattle.road.specs.Exact.{tangent_start}
 use Rattle.road.specs.Held.{road_in}
 use Rattle.laws_of_acceptance.specs.Lists.{unmapped, tangent-item, tangent-count, tangent_sums_start, tangent_sums}

@@ -1,5 +1,5 @@
 -- One curve after another; the vertex is the sum of the lengths so far.
-use Prim.Native.Nat.{◌-◌}
+use Rattle.std.proofs.Common.{◌-◌}
 use Rattle.road.specs.Exact.{tangent_start}
 use Rattle.road.specs.Held.{road_in}
 use Rattle.laws_of_acceptance.specs.Lists.{Sums}

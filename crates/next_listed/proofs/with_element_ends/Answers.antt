@@ -1,11 +1,5 @@
 -- One element after another; its end is the sum of the lengths so far.
-use mathlib.Core.Path.{◌≡◌, sym, ap, ◌∙◌}
-use mathlib.Core.List.{List}
-use Prim.Native.Nat.{ℕ, suc}
-use native.Mathlib.Omega.{arith}
-use native.Mathlib.Numerals.{add-one}
-use borrow.Author.Rules.{rules}
-use lib.ListN.{length}
+use Rattle.std.proofs.Common.{◌≡◌, sym, ap, ◌∙◌, List, ℕ, suc, arith, add-one, rules, length}
 use Rattle.road.specs.Base.{count_from}
 use Rattle.road.specs.Exact.{element_start}
 use Rattle.road.specs.Held.{road_in}

@@ -1,6 +1,5 @@
 -- One element after another; its end is the sum of the lengths so far.
-use mathlib.Core.List.{◌∷◌, []}
-use Prim.Native.Nat.{suc, ◌-◌}
+use Rattle.std.proofs.Common.{◌∷◌, [], suc, ◌-◌}
 use Rattle.road.specs.Exact.{element_start}
 use Rattle.road.specs.Held.{road_in}
 use Rattle.laws_of_acceptance.specs.Lists.{Sums}

@@ -1,7 +1,5 @@
 -- The station rounded up to a multiple is the least, where it is below T.
-use mathlib.Core.Path.{sym, ◌∙◌}
-use native.Mathlib.Omega.{arith}
-use borrow.Author.Rules.{rules}
+use Rattle.std.proofs.Common.{sym, ◌∙◌, arith, rules}
 use Rattle.next_listed.specs.Least.{as_option}
 use Rattle.next_listed.specs.Multiples.{rounded-up-from, rounded-up-upto, multiples-none, multiples_some}
 use Rattle.next_listed.proofs.with_multiples.Goals as goal

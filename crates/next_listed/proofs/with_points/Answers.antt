@@ -1,10 +1,6 @@
 -- One point after another.
-use mathlib.Core.Path.{◌≡◌, sym, ap, ◌∙◌}
-use mathlib.Core.List.{List}
-use mathlib.Core.Option.{none}
-use Prim.Native.Nat.{ℕ}
-use lib.ListN.{length}
-use borrow.Author.Rules.{rules}
+use Rattle.std.proofs.Common.{◌≡◌, sym, ap, ◌∙◌, List, ℕ, length, rules}
+use Rattle.std.proofs.Math.Option.{none}
 use Rattle.road.specs.Exact.{blank_crossfall}
 use Rattle.road.specs.Listed.{counted}
 use Rattle.road.specs.Held.{road_in}

@@ -1,7 +1,6 @@
 -- One point after another.
-use mathlib.Core.List.{◌∷◌, []}
-use mathlib.Core.Option.{none}
-use Prim.Native.Nat.{◌-◌}
+use Rattle.std.proofs.Common.{◌∷◌, [], ◌-◌}
+use Rattle.std.proofs.Math.Option.{none}
 use Rattle.road.specs.Exact.{point_of}
 use Rattle.road.specs.Held.{road_in}
 use Rattle.next_listed.specs.Least.{as_option}

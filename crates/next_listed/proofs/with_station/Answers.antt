@@ -1,6 +1,5 @@
 -- By the order of the station and the least so far.
-use mathlib.Core.Path.{sym}
-use borrow.Author.Rules.{rules}
+use Rattle.std.proofs.Common.{sym, rules}
 use Rattle.next_listed.specs.Counting.{not_counted, counted-first, counted-less, counted-more}
 use Rattle.next_listed.proofs.with_station.Goals as goal
 

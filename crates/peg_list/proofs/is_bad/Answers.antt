@@ -1,5 +1,4 @@
-use Rattle.std.proofs.Common.{ap, Bool}
-use Rattle.std.specs.Prelude.{◌||◌, leb, ltb}
+use Rattle.std.proofs.Common.{ap, Bool, ◌||◌, leb, ltb}
 use Rattle.peg_list.specs.Pegs.{peg_at, is_bad}
 use Rattle.peg_list.proofs.is_bad.Goals as goal
 
