@@ -15,6 +15,7 @@ use road::{Element, ElementRule};
 pub const LONGEST: u64 = 100000000;
 
 // Whether an element may follow the two before it.
+#[tactic(auto, unfolding(road::specs::Rules::may_follow))]
 fn may_follow(earlier: Element, before: Element, e: Element) -> bool
     ensures { result ≡ may_follow earlier before e }
 {
@@ -26,6 +27,7 @@ fn may_follow(earlier: Element, before: Element, e: Element) -> bool
 }
 
 // 7
+#[tactic(auto, unfolding(road::specs::Rules::wrong_kind))]
 fn is_wrong_kind(place: usize, count: usize, earlier: Element, before: Element, e: Element) -> bool
     ensures { result ≡ wrong_kind place count earlier before e }
 {
@@ -46,6 +48,7 @@ fn is_long_straight(l: Limits, e: Element) -> bool
 }
 
 // 9, of a straight and the arcs before it and after it
+#[tactic(auto, unfolding(road::specs::Rules::short_straight))]
 pub fn is_short_straight(l: Limits, before: Element, e: Element, after: Element) -> bool
     ensures { result ≡ short_straight (as_limits l) before.radius e after.radius }
 {
@@ -126,6 +129,7 @@ pub fn is_broken(
 }
 
 // Whether any of them is broken: a plan that breaks none is passed once.
+#[tactic(auto, unfolding(crate::specs::Any::any_broken))]
 pub fn is_any_broken(
     l: Limits,
     place: usize,
