@@ -5,17 +5,16 @@
 use file_numbers::Number;
 
 // A number on a line of its own.
-fn show(v: i64) {
+fn show(rt: &impl Print, v: i64) {
     let mut line = [0u8; 32];
     let pairs = decimal::pairs();
     let end = decimal::put_field(&pairs, &mut line, 0, v, 10);
-    io::write_all(1, &line[..end]);
+    let _ = rt.write_all(&line[..end]);
 }
 
 // A size on a line of its own.
-fn show_size(n: u64) {
-    io::print_decimal(1, n);
-    io::write_all(1, b"\n");
+fn show_size(rt: &impl Print, n: u64) {
+    let _ = println!(rt; "{n}");
 }
 
 fn wide(v: i32) -> i64 {
@@ -23,76 +22,91 @@ fn wide(v: i32) -> i64 {
 }
 
 // The number at the front of some bytes, and the place after it, or that there is none.
-fn show_number(bytes: &[u8]) {
+fn show_number(rt: &impl Print, bytes: &[u8]) {
     match reader::number_at(bytes, 0) {
         Number::Value(v, next) => {
-            io::print_decimal(1, v as u64);
-            io::write_all(1, b" ");
-            io::print_decimal(1, next as u64);
-            io::write_all(1, b"\n");
+            let _ = println!(rt; "{v} {next}");
         }
         Number::Faulty => {
-            io::write_all(1, b"faulty\n");
+            let _ = println!(rt; "faulty");
         }
     }
 }
 
 // "300 is AC 02 hexadecimal; 80 00 is refused"; the empty file; the greatest number, and one more.
-fn numbers() {
-    show_number(&[0xAC, 0x02]);
-    show_number(&[0x80, 0x00]);
+fn numbers(rt: &impl Print) {
+    show_number(rt, &[0xAC, 0x02]);
+    show_number(rt, &[0x80, 0x00]);
     let nothing = [0u8; 1];
-    show_number(&nothing[..0]);
-    show_number(&[0xFF, 0xFF, 0xFF, 0xFF, 0x0F]);
-    show_number(&[0x80, 0x80, 0x80, 0x80, 0x10]);
-    show_number(&[0x80]);
+    show_number(rt, &nothing[..0]);
+    show_number(rt, &[0xFF, 0xFF, 0xFF, 0xFF, 0x0F]);
+    show_number(rt, &[0x80, 0x80, 0x80, 0x80, 0x10]);
+    show_number(rt, &[0x80]);
 }
 
 // Signed values: −25,000 is written as 49,999.
-fn signed_values() {
-    show(wide(file_numbers::signed_of(49999)));
-    show(file_numbers::written_as(-25000) as i64);
-    show(wide(file_numbers::signed_of(4294967295)));
-    show(file_numbers::byte_count(0) as i64);
-    show(file_numbers::byte_count(127) as i64);
-    show(file_numbers::byte_count(128) as i64);
-    show(file_numbers::byte_count(4294967295) as i64);
+fn signed_values(rt: &impl Print) {
+    show(rt, wide(file_numbers::signed_of(49999)));
+    show(rt, file_numbers::written_as(-25000) as i64);
+    show(rt, wide(file_numbers::signed_of(4294967295)));
+    show(rt, file_numbers::byte_count(0) as i64);
+    show(rt, file_numbers::byte_count(127) as i64);
+    show(rt, file_numbers::byte_count(128) as i64);
+    show(rt, file_numbers::byte_count(4294967295) as i64);
 }
 
 // "Truncating negative drops towards zero: −68.75 becomes −68"; exact halves go away from zero.
-fn roundings() {
-    show(integers::round_div(-6875, 100));
-    show(integers::round_div(-715, 10));
-    show(integers::round_div(715, 10));
+fn roundings(rt: &impl Print) {
+    show(rt, integers::round_div(-6875, 100));
+    show(rt, integers::round_div(-715, 10));
+    show(rt, integers::round_div(715, 10));
 }
 
 // The least and the greatest number of 64 bits, and of those that are rounded.
-fn widest() {
-    show(-9223372036854775808);
-    show(9223372036854775807);
-    show(0);
-    show(integers::round_div(-1000000000000000000, 1));
-    show(integers::round_div(1000000000000000000, 1000000000000000000));
-    show(integers::div_floor(-9223372036854775808, 9223372036854775807));
-    show(integers::rem_floor(-9223372036854775808, 9223372036854775807));
+fn widest(rt: &impl Print) {
+    show(rt, -9223372036854775808);
+    show(rt, 9223372036854775807);
+    show(rt, 0);
+    show(rt, integers::round_div(-1000000000000000000, 1));
+    show(
+        rt,
+        integers::round_div(1000000000000000000, 1000000000000000000),
+    );
+    show(
+        rt,
+        integers::div_floor(-9223372036854775808, 9223372036854775807),
+    );
+    show(
+        rt,
+        integers::rem_floor(-9223372036854775808, 9223372036854775807),
+    );
 }
 
 // Over a divisor that i64 does not hold: an exact half and just below it, and two rests that together u64 does not hold.
-fn sums() {
-    show_size(integers::nearest_sum(1000, 4990000000000000000, 0, 9980000000000000000));
-    show_size(integers::nearest_sum(1000, 4989999999999999999, 0, 9980000000000000000));
-    show_size(integers::nearest_sum(
-        1000,
-        9979999999999999999,
-        9979999999999999999,
-        9980000000000000000,
-    ));
+fn sums(rt: &impl Print) {
+    show_size(
+        rt,
+        integers::nearest_sum(1000, 4990000000000000000, 0, 9980000000000000000),
+    );
+    show_size(
+        rt,
+        integers::nearest_sum(1000, 4989999999999999999, 0, 9980000000000000000),
+    );
+    show_size(
+        rt,
+        integers::nearest_sum(
+            1000,
+            9979999999999999999,
+            9979999999999999999,
+            9980000000000000000,
+        ),
+    );
 }
 
-fn main() {
-    numbers();
-    signed_values();
-    roundings();
-    widest();
-    sums();
+fn main(rt: HostRuntime) {
+    numbers(&rt);
+    signed_values(&rt);
+    roundings(&rt);
+    widest(&rt);
+    sums(&rt);
 }
