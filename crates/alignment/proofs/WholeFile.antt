@@ -5,7 +5,7 @@ use Prim.Native.Nat.{ℕ, ◌<◌, ◌≤◌}
 use lib.ListN.{length, take}
 use lib.IntN.{ℤ, pos, negsuc}
 use borrow.Author.Tests.{lt-ltb, le-ltb}
-use Rattle.file_numbers.specs.Reading.{Got, got, refused, and_then, ◌>>=◌, many}
+use Rattle.file_numbers.specs.Reading.{Got, got, refused, and_then, many}
 use Rattle.road.specs.File.{Road, field, signed, between, element, tangent, point, head_fields, plan_fields, profile_fields, crossfall_fields, road_of, fields, ended, read}
 use Rattle.road.specs.Held.{held}
 use Rattle.road.specs.Exact.{blank_element, blank_tangent, blank_crossfall}
