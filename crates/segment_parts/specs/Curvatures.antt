@@ -15,7 +15,6 @@ use Rattle.road.specs.File.{Road}
 use Rattle.road.specs.Exact.{blank_element, element_of, element_start, arc_curvature, start_curvature, end_curvature, clothoid_curvature, curvature_on, curvature, from◌to◌}
 use Rattle.laws_of_acceptance.specs.Ranged.{Within}
 use Rattle.road.specs.declared.Element.{Element}
-use Rattle.laws_of_acceptance.specs.PlanOrder.{Stands}
 use Rattle.laws_of_acceptance.specs.Ranges.{element_in}
 use Rattle.laws_of_pieces.specs.Curvatures.{OnElement, element-positive, curvature-on}
 use Rattle.laws_of_acceptance.specs.Guaranteed.{Guaranteed}

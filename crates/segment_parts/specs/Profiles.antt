@@ -4,7 +4,7 @@ use Rattle.std.proofs.Common.{sym, ap, subst, arith, ne_eqb}
 use Rattle.std.proofs.Math.Decide.{dec_lt}
 use Rattle.integers.specs.Bridge.{nat, ◌⊕◌, ◌⊖◌, eq! }
 use Rattle.integers.specs.Ring.{◌:+◌, ◌:*◌, #, ring, $}
-use Rattle.integers.specs.Fraction.{whole, ◌≈ᶠ◌}
+use Rattle.integers.specs.Fraction.{◌≈ᶠ◌}
 use Rattle.integers.specs.Values.{◌then◌}
 use Rattle.road.specs.File.{Road}
 use Rattle.road.specs.Exact.{tangent_of, tangent_start, total, vertex_count, vertex, half_length, grade_change, past, start_height, tangent_height, curve_height, height, grade, from◌to◌}
