@@ -20,6 +20,7 @@ fn is_not_beyond(place: usize, before: Crossfall, p: Crossfall) -> bool
     }
 }
 
+#[tactic(auto, unfolding(road::specs::Rules::misplaced))]
 fn is_misplaced(place: usize, count: usize, whole: u64, before: Crossfall, p: Crossfall) -> bool
     requires { place ≤ 200 }
     ensures { result ≡ misplaced place count whole before p }
@@ -28,6 +29,7 @@ fn is_misplaced(place: usize, count: usize, whole: u64, before: Crossfall, p: Cr
 }
 
 // 17
+#[tactic(auto, unfolding(road::specs::Rules::wrong_side))]
 fn is_wrong_side(l: Limits, crossfall: i32) -> bool
     ensures { result ≡ wrong_side (as_limits l) crossfall }
 {
@@ -35,6 +37,7 @@ fn is_wrong_side(l: Limits, crossfall: i32) -> bool
     (size < l.crossfall_min) | (l.crossfall_max < size)
 }
 
+#[tactic(auto, unfolding(road::specs::Rules::wrong_crossfall))]
 fn is_wrong_crossfall(l: Limits, p: Crossfall) -> bool
     ensures { result ≡ wrong_crossfall (as_limits l) p }
 {
@@ -48,6 +51,7 @@ fn is_steep_side(lane: u32, ramp: u32, distance: u32, from: i32, to: i32) -> boo
     sizes::product(ramp, distance) < sizes::product(lane, sizes::apart(to, from))
 }
 
+#[tactic(auto, unfolding(road::specs::Rules::steep_ramp))]
 fn is_steep_ramp(lane: u32, ramp: u32, p: Crossfall, after: Crossfall) -> bool
     ensures { result ≡ steep_ramp lane ramp p after }
 {

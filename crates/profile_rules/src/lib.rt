@@ -31,6 +31,7 @@ fn vertical_radius(l: Limits, sag: bool) -> u32
     if sag { l.sag_radius } else { l.crest_radius }
 }
 
+#[tactic(auto, unfolding(road::specs::Rules::sharp_vertex))]
 fn is_sharp_vertex(l: Limits, t: Tangent, after: Tangent) -> bool
     ensures { result ≡ sharp_vertex (as_limits l) t after }
 {

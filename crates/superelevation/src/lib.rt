@@ -11,6 +11,7 @@ ghost use Rattle.superelevation.specs.Shown.{shown_by};
 use limits::Limits;
 use road::{Crossfall, Element};
 
+#[tactic(auto, unfolding(road::specs::Rules::changes_between))]
 fn changes_between(low: u64, high: u64, p: Crossfall, after: Crossfall) -> bool
     ensures { result ≡ changes_between low high p after }
 {
@@ -39,6 +40,7 @@ fn is_crowned(l: Limits, radius: i32, p: Crossfall) -> bool
     ((left & right) & (l.radius_both != limits::NO_RULE)) & (l.radius_both <= sizes::size(radius))
 }
 
+#[tactic(auto, unfolding(road::specs::Rules::allowed))]
 fn is_allowed(l: Limits, radius: i32, p: Crossfall) -> bool
     ensures { result ≡ allowed (as_limits l) radius p }
 {
@@ -46,6 +48,7 @@ fn is_allowed(l: Limits, radius: i32, p: Crossfall) -> bool
 }
 
 // What a point and the next show of an element from low to high.
+#[tactic(auto, unfolding(crate::specs::Shown::shown_by))]
 pub fn is_wrong(l: Limits, e: Element, low: u64, high: u64, p: Crossfall, after: Crossfall) -> bool
     ensures { result ≡ shown_by (as_limits l) e low high p after }
 {
