@@ -1,13 +1,8 @@
 -- How a cursor moves on along a list.
-use mathlib.Core.Path.{◌≡◌, refl, sym, ap, ap₂, ◌∙◌}
-use mathlib.Core.Bool.{Bool, true, false, ◌&&◌}
-use Prim.Native.Nat.{ℕ, zero, suc, ◌+◌, ◌-◌, ◌<◌, ◌≤◌, min}
-use native.Mathlib.Omega.{arith}
-use native.Mathlib.Numerals.{add-one}
-use borrow.Author.Tests.{lt-ltb, ltb-true, ltb-false, leb-true, leb-false}
-use lib.Dec.{leb, ltb}
-use lib.ListN.{length, get_or, get_or-eq_default}
-use lib.IntN.{ℤ, pos, ◌+ℤ◌, ◌*ℤ◌, +ℤ_idr}
+use Rattle.std.proofs.Common.{◌≡◌, refl, sym, ap, ap₂, ◌∙◌, Bool, true, false, ◌&&◌, ℕ, zero, suc, ◌+◌, ◌-◌, ◌<◌, ◌≤◌, min, leb, ltb, length, get_or, ℤ, pos, ◌+ℤ◌, ◌*ℤ◌, arith, add-one}
+use borrow.Author.Tests.{lt-ltb, ltb-true, ltb-false, leb-true}
+use Rattle.std.proofs.Math.ListN.{get_or-eq_default}
+use Rattle.std.proofs.Math.IntN.{+ℤ_idr}
 use Rattle.road.specs.Base.{if◌then◌else◌, sum_of}
 use Rattle.laws_of_lists.specs.Tests.{and_left, and_right}
 use Rattle.road.specs.File.{Road}
@@ -24,13 +19,12 @@ use Rattle.laws_of_acceptance.specs.Facts.{start_first}
 use Rattle.laws_of_acceptance.specs.Guaranteed.{Guaranteed}
 use Rattle.segment_parts.specs.Tangents.{height_start, TangentFound, first_place, next_place, height-next}
 use Rattle.segment_parts.specs.Ends.{curvature_at}
-use Rattle.segment_parts.specs.Sides.{point_station, sides_of}
+use Rattle.segment_parts.specs.Sides.{point_station}
 use Rattle.segment_parts.specs.Profiles.{piece_later}
 use Rattle.segment_parts.specs.declared.Curvature.{Curvature}
-use Rattle.segment_parts.specs.declared.Sides.{Sides}
 use Rattle.segment_parts.specs.declared.TangentPlace.{TangentPlace}
 use Rattle.cursors.specs.declared.Place.{Place}
-use Rattle.cursors.specs.Places.{Reached, ElementFound, TangentReached, CrossfallFound, PlaceReached, PlaceFound}
+use Rattle.cursors.specs.Places.{Reached, ElementFound, TangentReached, PlaceReached, PlaceFound}
 
 -- ---- one cursor: where the next item does not begin at or before x, the last one is found
 pub reached-ends : {f : ℕ → ℕ} {n x i : ℕ} → Reached f n x i → (suc i < n → x < f (suc i)) → Begun f n x i
@@ -46,9 +40,6 @@ reached_later a h = record { within = a.within; begun = let l = a.begun in omega
 module _ (next count begins x : ℕ) where
   pub goes_on : (ltb next count && leb begins x) ≡ true → (next < count) × (begins ≤ x)
   goes_on e = (ltb-true next count (and_left (ltb next count) (leb begins x) e), leb-true begins x (and_right (ltb next count) (leb begins x) e))
-
-  pub stops : (ltb next count && leb begins x) ≡ false → next < count → x < begins
-  stops e h = leb-false begins x (sym (ap (λ (b : Bool). b && leb begins x) (lt-ltb next count h)) ∙ e)
 
 -- ---- the plan
 -- element i, and where it begins
@@ -121,19 +112,6 @@ pub record AtPoint (r : Road) (x i j : ℕ) (d : Crossfall) : Type 0 where
   pub next : j ≡ i + 1
   pub item : d ≡ point_of r j
 
-module _ {r : Road} {x i j : ℕ} {d : Crossfall} (g : AtPoint r x i j d) where
-  next-station : d.station ≡ point_station r (suc i)
-  next-station = ap (λ (d : Crossfall). d.station) (g.item ∙ ap (point_of r) (g.next ∙ add-one i))
-
-  pub point-more : {d' : Crossfall} → j + 1 < length r.crossfalls → d.station ≤ x → d' ≡ point_of r (j + 1) → AtPoint r x j (j + 1) d'
-  point-more h l q = let n = g.next in let e = next-station in let s : j ≡ suc i = omega arith in record { at = record { within = omega arith; begun = rw s (omega arith) }; next = refl; item = q }
-
-  pub point_found : {c : Crossfall} {s : Sides} → (j + 1 < length r.crossfalls → x < d.station) → c ≡ point_of r i → s ≡ sides_of c d → CrossfallFound r (record { index = i; end = d.station; sides = s }) x
-  point_found h q w =
-      let n = g.next in
-      let e = next-station in
-      record { placed = record { end = e; sides = w ∙ ap₂ sides_of q (g.item ∙ ap (point_of r) (g.next ∙ add-one i)) }; at = reached-ends g.at (λ u. let l = h (omega arith) in omega arith) }
-
 -- ---- the first of each list
 pub element-first : (r : Road) → element_start r 0 ≡ 0
 unfolding element_start sum_of
@@ -152,9 +130,6 @@ module _ {r : Road} (G : Guaranteed r) where
     placed = record { begin = sym (start_first r); height = height_zero r; half = refl; grade = refl };
     at = record { within = G.tangent-count.low; begun = omega (arith, start_first r) };
   })
-
-  pub first-point : (x : ℕ) → Reached (point_station r) (length r.crossfalls - 1) x 0
-  first-point x = record { within = let h = G.point-count.low in omega arith; begun = omega (arith, G.facts_of.first) }
 
   -- ---- on all three: found at x, reached for a later station
   pub found_later : {q : Place} {x y : ℕ} → PlaceFound r q x → x ≤ y → PlaceReached r q y

@@ -1,6 +1,5 @@
 -- A view of a station: the laws of segment_parts, at the items of the station's places.
-use mathlib.Core.Path.{◌≡◌, sym, ap₂, ◌∙◌, subst}
-use Prim.Native.Nat.{ℕ, suc, ◌≤◌}
+use Rattle.std.proofs.Common.{◌≡◌, sym, ap₂, ◌∙◌, subst, ℕ, suc, ◌≤◌}
 use Rattle.road.specs.File.{Road}
 use Rattle.road.specs.Exact.{point_of, element_start, total}
 use Rattle.road.specs.Lane.{lane_width}
