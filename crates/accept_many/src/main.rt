@@ -38,11 +38,11 @@ fn accepted_often(file: &mut [u8], calls: u64) -> u64
     count
 }
 
-fn main() {
+fn main(rt: HostRuntime) {
     let mut space = [0u8; 8193];
-    let length = io::read_full(0, &mut space);
+    let length = streams::read_full(&mut rt.stdin(), &mut space);
     if 3 <= length {
-        io::print_decimal(1, accepted_often(&mut space[..length], 20000));
-        io::write_all(1, b"\n");
+        let often = accepted_often(&mut space[..length], 20000);
+        let _ = println!(rt; "{often}");
     }
 }
