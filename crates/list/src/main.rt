@@ -5,7 +5,7 @@
 ghost use Rattle.std.specs.Prelude.{length};
 ghost use Rattle.list.specs.Within.{Within};
 
-use libc::{STDERR_FILENO, STDIN_FILENO};
+use std::io::{Read, Write};
 
 // How many bytes were read, or that a read failed.
 #[derive(Clone, Copy)]
@@ -15,33 +15,32 @@ enum Input {
 }
 
 // One read into the rest of the buffer: its count, 0 at the input's end.
-fn read_once(rest: &mut [u8]) -> Input
+fn read_once<R: Read>(input: &mut R, rest: &mut [u8]) -> Input
     ensures { Within result (length rest.old) }
 {
-    let got = libc::read(STDIN_FILENO, rest);
-    if got < 0 {
-        return Input::Failed;
+    match input.read(rest) {
+        Err(_) => Input::Failed,
+        Ok(count) => Input::Bytes(count),
     }
-    Input::Bytes(io::count(got, rest))
 }
 
 // A read that failed may have been interrupted: it is tried once more.
-fn read_some(rest: &mut [u8]) -> Input
+fn read_some<R: Read>(input: &mut R, rest: &mut [u8]) -> Input
     ensures { Within result (length rest.old) }
 {
-    match read_once(rest) {
-        Input::Failed => read_once(rest),
+    match read_once(input, rest) {
+        Input::Failed => read_once(input, rest),
         Input::Bytes(count) => Input::Bytes(count),
     }
 }
 
 // Reads until the buffer is full or the input ends. At most the buffer's length is looked at.
-fn read_input(buffer: &mut [u8]) -> Input
+fn read_input<R: Read>(input: &mut R, buffer: &mut [u8]) -> Input
     ensures { Within result (length buffer.old) }
 {
     let mut done: usize = 0;
     while done < buffer.len() {
-        match read_some(&mut buffer[done..]) {
+        match read_some(input, &mut buffer[done..]) {
             Input::Failed => {
                 return Input::Failed;
             }
@@ -56,23 +55,23 @@ fn read_input(buffer: &mut [u8]) -> Input
     Input::Bytes(done)
 }
 
-// The list of a file, or its refusal; a word on standard error where it was not written whole.
-fn list(file: &[u8]) {
-    let handed = list_output::print_list(file);
+// The list of a file, or its refusal; a word where it was not written whole.
+fn list<W: Write, E: Write>(output: &mut W, errors: &mut E, file: &[u8]) {
+    let handed = list_output::print_list(output, file);
     if !list_output::is_written(handed) {
-        io::write_all(STDERR_FILENO, b"list: the list was not written whole\n");
+        streams::write_whole(errors, b"list: the list was not written whole\n");
     }
 }
 
-fn main() {
+fn main(rt: HostRuntime) {
     // one byte more than a file may have tells that it is too long
     let mut file = [0u8; 8193];
-    match read_input(&mut file) {
+    match read_input(&mut rt.stdin(), &mut file) {
         Input::Failed => {
-            io::write_all(STDERR_FILENO, b"list: standard input cannot be read\n");
+            streams::write_whole(&mut rt.stderr(), b"list: standard input cannot be read\n");
         }
         Input::Bytes(count) => {
-            list(&file[..count]);
+            list(&mut rt.stdout(), &mut rt.stderr(), &file[..count]);
         }
     }
 }

@@ -2,24 +2,26 @@
 
 #![tactic(auto)]
 
+use std::io::Write;
 
 // Prints the list of the file that the input has from a place on; the place after it.
-fn one_list(input: &[u8], at: usize) -> usize {
+fn one_list<W: Write>(output: &mut W, input: &[u8], at: usize) -> usize {
     let part = cases::part_at(input, at);
     let from = part.from;
     let end = part.end;
     let file = &input[from..end];
-    list_output::print_list(file);
+    list_output::print_list(output, file);
     end
 }
 
-fn main() {
+fn main(rt: HostRuntime) {
+    let mut output = rt.stdout();
     let mut space = [0u8; 524288];
-    let count = io::read_full(0, &mut space);
+    let count = streams::read_full(&mut rt.stdin(), &mut space);
     let input = &space[..count];
     let mut at = 0;
     while at < input.len() {
-        let next = one_list(input, at);
+        let next = one_list(&mut output, input, at);
         if next <= at {
             return;
         }

@@ -135,12 +135,12 @@ fn calls_of(kind: u8, file: &mut [u8]) -> u64
     file_calls(file, kind, CALLS)
 }
 
-fn main() {
+fn main(rt: HostRuntime) {
     let mut space = [0u8; 8194];
-    let length = io::read_full(0, &mut space);
+    let length = streams::read_full(&mut rt.stdin(), &mut space);
     if 4 <= length {
         let kind = space[0];
-        io::print_decimal(1, calls_of(kind, &mut space[1..length]));
-        io::write_all(1, b"\n");
+        let sum = calls_of(kind, &mut space[1..length]);
+        let _ = println!(rt; "{sum}");
     }
 }

@@ -114,16 +114,15 @@ fn spread(stations: &mut [u64; 2000], end: u32) {
 }
 
 // The test always holds, and is shorter than its proof.
-fn print_rows(file: &[u8], stations: &[u64; 2000], out: &mut [u8]) {
+fn print_rows(rt: &impl Print, file: &[u8], stations: &[u64; 2000], out: &mut [u8]) {
     let length = written(pegs::peg_rows(file, stations, out)) as usize;
     if length <= out.len() {
-        io::write_all(1, &out[..length]);
+        let _ = rt.write_all(&out[..length]);
     }
 }
 
-fn print_sum(sum: u32) {
-    io::print_decimal(1, sum as u64);
-    io::write_all(1, b"\n");
+fn print_sum(rt: &impl Print, sum: u32) {
+    let _ = println!(rt; "{sum}");
 }
 
 // s goes n times over the pegs.
@@ -135,25 +134,26 @@ fn how_often(kind: u8, first: u8, second: u8) -> usize
 }
 
 // The pegs are computed once, before the calls.
-fn print_answer(kind: u8, count: usize, file: &mut [u8])
+fn print_answer(rt: &impl Print, kind: u8, count: usize, file: &mut [u8])
     requires { (3 ≤ length file.old) × (count ≤ 1000000000) }
 {
     let mut stations = [0u64; 2000];
     let mut out = [0u8; 192000];
     spread(&mut stations, end_of(file));
     if kind == b'p' {
-        print_rows(file, &stations, &mut out);
+        print_rows(rt, file, &stations, &mut out);
     } else {
-        print_sum(calls(kind, count, file, &stations, &mut out));
+        print_sum(rt, calls(kind, count, file, &stations, &mut out));
     }
 }
 
-fn main() {
+fn main(rt: HostRuntime) {
     let mut space = [0u8; 8196];
-    let length = io::read_full(0, &mut space);
+    let length = streams::read_full(&mut rt.stdin(), &mut space);
     if 6 <= length {
         let kind = space[0];
         print_answer(
+            &rt,
             kind,
             how_often(kind, space[1], space[2]),
             &mut space[3..length],

@@ -14,70 +14,61 @@ fn hex_digit(n: u8) -> u8 {
     }
 }
 
-fn show_bytes(bytes: &[u8]) {
+fn show_bytes(rt: &impl Print, bytes: &[u8]) {
     let mut i = 0;
     while i < bytes.len() {
         let b = bytes[i];
-        io::write_all(1, &[hex_digit(b / 16), hex_digit(b % 16)]);
+        let _ = rt.write_all(&[hex_digit(b / 16), hex_digit(b % 16)]);
         i += 1;
     }
-    io::write_all(1, b"\n");
+    let _ = println!(rt; "");
 }
 
-fn show_after(line: &[u8]) {
-    io::write_all(1, b" | ");
-    show_bytes(line);
+fn show_after(rt: &impl Print, line: &[u8]) {
+    let _ = print!(rt; " | ");
+    show_bytes(rt, line);
 }
 
-fn show_refusal(number: u32, place: usize) {
-    io::write_all(1, b"R ");
-    io::print_decimal(1, number as u64);
-    io::write_all(1, b" ");
-    io::print_decimal(1, place as u64);
+fn show_refusal(rt: &impl Print, number: u32, place: usize) {
+    let _ = print!(rt; "R {number} {place}");
 }
 
-fn call_row(file: &[u8], station: u64, line: &mut [u8]) {
-    io::write_all(1, b"row ");
-    io::print_decimal(1, station);
-    io::write_all(1, b": ");
+fn call_row(rt: &impl Print, file: &[u8], station: u64, line: &mut [u8]) {
+    let _ = print!(rt; "row {station}: ");
     match stationing::row(file, station, line) {
         RowAnswer::Refused(number, place) => {
-            show_refusal(number, place);
+            show_refusal(rt, number, place);
         }
         RowAnswer::Length(length) => {
-            io::write_all(1, b"len ");
-            io::print_decimal(1, length as u64);
+            let _ = print!(rt; "len {length}");
         }
     }
 }
 
-fn call_next(file: &[u8], station: u64) {
-    io::write_all(1, b"next ");
-    io::print_decimal(1, station);
-    io::write_all(1, b": ");
+fn call_next(rt: &impl Print, file: &[u8], station: u64) {
+    let _ = print!(rt; "next {station}: ");
     match stationing::next_station(file, station) {
         NextAnswer::Refused(number, place) => {
-            show_refusal(number, place);
+            show_refusal(rt, number, place);
         }
         NextAnswer::Station(next) => {
-            io::write_all(1, b"station ");
-            io::print_decimal(1, next);
+            let _ = print!(rt; "station {next}");
         }
         NextAnswer::Nothing => {
-            io::write_all(1, b"none");
+            let _ = print!(rt; "none");
         }
     }
 }
 
 // One call of kind 0, a row, or 1, a next station, and the buffer after it.
-fn call(file: &[u8], kind: u64, station: u64, line: &mut [u8]) {
+fn call(rt: &impl Print, file: &[u8], kind: u64, station: u64, line: &mut [u8]) {
     if kind == 0 {
-        call_row(file, station, line);
-        show_after(line);
+        call_row(rt, file, station, line);
+        show_after(rt, line);
         return;
     }
-    call_next(file, station);
-    show_after(line);
+    call_next(rt, file, station);
+    show_after(rt, line);
 }
 
 // The station of two halves.
@@ -91,14 +82,27 @@ fn station_of(high: u64, low: u64) -> u64 {
 }
 
 // So many calls, which the input has from a place on; the place after them.
-fn run_calls(input: &[u8], at: usize, count: u64, file: &[u8], line: &mut [u8]) -> usize {
+fn run_calls(
+    rt: &impl Print,
+    input: &[u8],
+    at: usize,
+    count: u64,
+    file: &[u8],
+    line: &mut [u8],
+) -> usize {
     let mut next = at;
     let mut i: u64 = 0;
     while i < count {
         let kind = cases::item_at(input, next);
         let high = cases::item_at(input, kind.next);
         let low = cases::item_at(input, high.next);
-        call(file, kind.value, station_of(high.value, low.value), line);
+        call(
+            rt,
+            file,
+            kind.value,
+            station_of(high.value, low.value),
+            line,
+        );
         next = low.next;
         i += 1;
     }
@@ -106,7 +110,7 @@ fn run_calls(input: &[u8], at: usize, count: u64, file: &[u8], line: &mut [u8]) 
 }
 
 // The run that the input has from a place on; the place after it.
-fn one_run(input: &[u8], at: usize) -> usize {
+fn one_run(rt: &impl Print, input: &[u8], at: usize) -> usize {
     let file_part = cases::part_at(input, at);
     let from = file_part.from;
     let end = file_part.end;
@@ -121,20 +125,20 @@ fn one_run(input: &[u8], at: usize) -> usize {
         return input.len();
     }
     let line: &mut [u8] = &mut space[..size];
-    bytes::copy(first, line);
-    io::write_all(1, b"buffer ");
-    show_bytes(line);
+    line.copy_from_slice(first);
+    let _ = print!(rt; "buffer ");
+    show_bytes(rt, line);
     let calls = cases::item_at(input, stop);
-    run_calls(input, calls.next, calls.value, file, line)
+    run_calls(rt, input, calls.next, calls.value, file, line)
 }
 
-fn main() {
+fn main(rt: HostRuntime) {
     let mut space = [0u8; 524288];
-    let count = io::read_full(0, &mut space);
+    let count = streams::read_full(&mut rt.stdin(), &mut space);
     let input = &space[..count];
     let mut at = 0;
     while at < input.len() {
-        let next = one_run(input, at);
+        let next = one_run(&rt, input, at);
         if next <= at {
             return;
         }
