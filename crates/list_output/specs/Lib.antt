@@ -1,2 +1,3 @@
 pub mod RefusalLine
 pub mod Progress
+pub mod Output

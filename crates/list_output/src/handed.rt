@@ -1,9 +1,10 @@
 // How far a file's list has been handed to standard output.
 ghost use Rattle.std.specs.Prelude.{◌≡◌, ◌&&◌, ◌++◌};
 ghost use Rattle.listing.specs.RestOfList.{rest_after};
+ghost use Rattle.list_output.specs.Output.{HandsOver};
 ghost use Rattle.list_output.specs.Progress.{no_part, goes_on};
 
-use libc::STDOUT_FILENO;
+use std::io::Write;
 use walk::Onward;
 
 // How the list goes on after the parts handed over, and whether all of them were written. The fields are private: a list goes on from where its last part
@@ -25,12 +26,19 @@ pub fn no_part() -> Handed
     }
 }
 
-// Hands a part of the file's list to standard output. The file is there for what is asked: the part stands in its list where the parts before it ended.
-pub fn hand_over(before: Handed, file: &[u8], part: &[u8], next: Onward) -> Handed
+// Hands a part of the file's list to the output. The file is there for what is asked: the part stands in its list where the parts before it ended.
+pub fn hand_over<W: Write>(
+    output: &mut W,
+    before: Handed,
+    file: &[u8],
+    part: &[u8],
+    next: Onward,
+) -> Handed
     requires { rest_after file.now before.next ≡ part.now ++ rest_after file.now next }
-    ensures { result.next ≡ next }
+    ensures next { result.next ≡ next }
+    ensures handed { HandsOver file.now (W.contents output.old) (W.contents output.new) before result }
 {
-    let is_written = io::write_all(STDOUT_FILENO, part);
+    let is_written = streams::write_whole(output, part);
     Handed {
         next,
         is_written: before.is_written & is_written,

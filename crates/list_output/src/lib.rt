@@ -1,23 +1,26 @@
-// The list of a file on standard output.
+// The list of a file, handed to an output part by part.
 
 #![tactic(auto)]
 
 mod handed;
 
-ghost use Rattle.std.specs.Prelude.{◌≡◌, true, [], ◌∷◌, ◌++◌, ◌+◌, ◌≤◌, length};
+ghost use Rattle.std.specs.Prelude.{◌≡◌, true, List, ℕ, [], ◌∷◌, ◌++◌, ◌+◌, ◌≤◌, length};
+ghost use Rattle.std.specs.Io.KnownBytes.{Appends};
 ghost use Rattle.decimal.specs.Decimal.{digits};
 ghost use Rattle.decimal.specs.Pairs.{pair_table};
 ghost use Rattle.decimal.specs.Written.{Wrote};
 ghost use Rattle.file_numbers.specs.Reading.{refused};
 ghost use Rattle.acceptance.specs.Acceptance.{TakenAs};
-ghost use Rattle.road.specs.Listing.{refusal_line};
+ghost use Rattle.road.specs.Listing.{refusal_line, list_of};
 ghost use Rattle.road.specs.Rules.{accepted};
 ghost use Rattle.walk.specs.declared.Onward.TheVariants.{Done};
-ghost use Rattle.list_output.specs.Progress.{Later};
+ghost use Rattle.list_output.specs.Output.{HandsOver};
+ghost use Rattle.list_output.specs.Progress.{Later, no_part};
 
 use acceptance::Outcome;
 pub use handed::{Handed, is_written};
 use road::AcceptedRoad;
+use std::io::Write;
 use walk::Onward;
 
 // Writes a number and the byte `after` behind it, from `at` on, and returns the place after that.
@@ -55,20 +58,28 @@ pub fn put_refusal(line: &mut [u8], number: u32, place: usize) -> usize
 }
 
 // Hands over the line of a file that is turned away.
-fn print_refusal(file: &[u8], number: u32, place: usize) -> Handed
+fn print_refusal<W: Write>(output: &mut W, file: &[u8], number: u32, place: usize) -> Handed
     requires { accepted file.now ≡ refused number place }
-    ensures { result.next ≡ Done }
+    ensures done { result.next ≡ Done }
+    ensures handed { HandsOver file.now (W.contents output.old) (W.contents output.new) no_part result }
 {
     let mut line = [0u8; 64];
     let end = put_refusal(&mut line, number, place);
-    handed::hand_over(handed::no_part(), file, &line[..end], Onward::Done)
+    handed::hand_over(output, handed::no_part(), file, &line[..end], Onward::Done)
 }
 
 // The part that follows: its rows put into the buffer, as many as it has room for, and handed over.
-fn print_part(file: &[u8], road: AcceptedRoad, before: Handed, out: &mut [u8]) -> Handed
+fn print_part<W: Write>(
+    output: &mut W,
+    file: &[u8],
+    road: AcceptedRoad,
+    before: Handed,
+    out: &mut [u8],
+) -> Handed
     requires taken { TakenAs file.now road }
     requires room { 96 ≤ length out.old }
-    ensures { Later before.next result.next }
+    ensures later { Later before.next result.next }
+    ensures handed { HandsOver file.now (W.contents output.old) (W.contents output.new) before result }
 {
     let next = handed::next_of(before);
     match next {
@@ -77,33 +88,36 @@ fn print_part(file: &[u8], road: AcceptedRoad, before: Handed, out: &mut [u8]) -
             let chunk = walk::rows_from(road, station, out);
             let bytes = chunk.bytes;
             let following = chunk.next;
-            handed::hand_over(before, file, &out[..bytes], following)
+            handed::hand_over(output, before, file, &out[..bytes], following)
         }
     }
 }
 
 // The rows of an accepted file, part by part, up to the last one or to one that was not written.
-fn print_rows(file: &[u8], road: AcceptedRoad) -> Handed
+fn print_rows<W: Write>(output: &mut W, file: &[u8], road: AcceptedRoad) -> Handed
     requires { TakenAs file.now road }
-    ensures { result.is_written ≡ true → result.next ≡ Done }
+    ensures done { result.is_written ≡ true → result.next ≡ Done }
+    ensures handed { HandsOver file.now (W.contents output.old) (W.contents output.new) no_part result }
 {
     let mut out = [0u8; 131072];
     let mut handed = handed::no_part();
     while handed::goes_on(handed) {
-        handed = print_part(file, road, handed, &mut out);
+        handed = print_part(output, file, road, handed, &mut out);
     }
     handed
 }
 
-// Hands the list of a file to standard output, or its refusal: to the end, or to a part that was not written.
-pub fn print_list(file: &[u8]) -> Handed
-    ensures { result.is_written ≡ true → result.next ≡ Done }
+// Hands the list of a file to the output, or its refusal: to the end, or to a part that was not written. What was written is the list, or its beginning.
+pub fn print_list<W: Write>(output: &mut W, file: &[u8]) -> Handed
+    ensures done { result.is_written ≡ true → result.next ≡ Done }
+    ensures whole { result.is_written ≡ true → Appends (W.contents output.old) (W.contents output.new) (list_of file.now) }
+    ensures beginning { (front rest : List ℕ) × (list_of file.now ≡ front ++ rest) × Appends (W.contents output.old) (W.contents output.new) front }
 {
     let accepted = acceptance::accept(file);
     let road = accepted.road;
     let outcome = accepted.outcome;
     if let Outcome::Refused(number, place) = outcome {
-        return print_refusal(file, number, place);
+        return print_refusal(output, file, number, place);
     }
-    print_rows(file, road)
+    print_rows(output, file, road)
 }
