@@ -1,10 +1,7 @@
 -- What was written so far, and the rows that remain. In one turn of the walk a row is written, and its station is passed.
-use mathlib.Core.Path.{◌≡◌, refl, sym, ap, ap₂, ◌∙◌, subst}
-use mathlib.Core.List.{List, [], ◌∷◌, ◌++◌, append-nil}
-use Prim.Native.Nat.{ℕ, ◌+◌, ◌-◌, ◌≤◌, ◌<◌}
-use native.Mathlib.Omega.{arith}
+use Rattle.std.proofs.Common.{◌≡◌, refl, sym, ap, ap₂, ◌∙◌, subst, List, [], ◌∷◌, ◌++◌, ℕ, ◌+◌, ◌-◌, ◌≤◌, ◌<◌, length, drop, arith}
+use mathlib.Core.List.{append-nil}
 use native.Mathlib.Nat.{sub-zero}
-use lib.ListN.{length, drop}
 use Rattle.decimal.specs.Written.{Wrote, written, wrote_none, wrote-append, wrote-length}
 use Rattle.road.specs.File.{Road}
 use Rattle.road.specs.Exact.{total}
@@ -79,10 +76,6 @@ walking_starts {r} {first} z e = record {
   view = refl;
   going = subst (Going (chunk r first (length z)) z z 0) (chunk-is r first (length z) ∙ ap₂ (λ (n x : ℕ). rows_that_fit (line r) n (not_below x (listed r))) (sym (sub-zero (length z))) (sym e.at)) (going-starts (chunk r first (length z)) z);
 }
-
--- in the next segment
-pub entered : {r : Road} {p : Part} {z y : List ℕ} {v : View} {w n : Walk} {end : ℕ} → Walking r p z y v w end → Entered r w.station n → Walking r p z y n.view n end
-entered {r} {p} {z} {y} {end = end} k e = record { stands = e.stands; view = refl; going = subst (λ (x : ℕ). Going p z y end (rows_that_fit (line r) (length z - end) (not_below x (listed r)))) (sym e.at) k.going }
 
 pub entered-inside : {r : Road} {x : ℕ} {w : Walk} → Entered r x w → w.station ≤ total r → w.station < w.view.joint
 entered-inside e l = let q = e.at in let k = e.inside (omega arith) in omega arith

@@ -1,8 +1,7 @@
 -- The next listed station is the first of those that are not below s.
-use mathlib.Core.Path.{◌≡◌, ap, subst}
-use mathlib.Core.List.{[], Memᴰ}
+use Rattle.std.proofs.Common.{◌≡◌, ap, subst, [], ℕ}
 use mathlib.Core.Option.{none, some}
-use Prim.Native.Nat.{ℕ}
+use mathlib.Core.List.{Memᴰ}
 use Rattle.road.specs.File.{Road}
 use Rattle.road.specs.Listed.{stations, listed, next_listed}
 use Rattle.road.specs.Line.{line}
