@@ -1,5 +1,5 @@
 -- When a mark stands: bit k of the set is the mark of 40 + 10 k km/h, which stands where every rule is kept; that of the class's own speed stands exactly where the file is accepted.
-use Rattle.std.specs.Prelude.{◌≡◌, refl, ◌↔◌, ℕ, zero, suc, ◌+◌, ◌*◌, ◌-◌, ◌/◌, ◌<◌, Bool, true, false, ◌&&◌, List, [], ◌∷◌, map, length, get_or, ltb, eqb}
+use Rattle.std.specs.Prelude.{◌≡◌, refl, ◌↔◌, ℕ, zero, suc, ◌+◌, ◌*◌, ◌-◌, ◌/◌, ◌<◌, Bool, true, ◌&&◌, List, [], ◌∷◌, map, length, get_or, ltb, eqb}
 use Rattle.std.proofs.Common.{sym, ap, ◌∙◌, arith, ltb→lt, eqb→eq}
 use Rattle.file_numbers.specs.Reading.{Got, got, refused}
 use Rattle.road.specs.File.{Road, read}
