@@ -2,8 +2,8 @@
  * Voardusk for C: the row of a station, the next listed station, many rows at a time, the speeds at which a road would
  * pass, and the rows of a list of pegs.
  *
- * Link with libvoardusk.a (`rt staticlib voardusk` writes it to target/staticlib; x86-64). No routine keeps state,
- * allocates or calls the system; each needs some 64 KB of stack, and memcpy and memset of the C library.
+ * Link with libvoardusk.a (`rt lib` in crates/voardusk writes it to crates/voardusk/out; x86-64). No routine keeps
+ * state, allocates or calls the system; each needs some 64 KB of stack, and memcpy and memset of the C library.
  *
  * Each routine returns 0, or the number of the refusal that turns the call away: 1 to 19, 22 and 23 for the file, 20
  * for a buffer under 96 bytes for each row asked for, 21 for a row beyond the road's end, 24 for a bad peg

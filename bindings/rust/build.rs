@@ -1,13 +1,13 @@
-//! Tells the linker where `rt staticlib voardusk` wrote the archive.
+//! Tells the linker where `rt lib` wrote the archive.
 
 use std::path::Path;
 
 fn main() {
-    let folder = Path::new(env!("CARGO_MANIFEST_DIR")).join("../../target/staticlib");
+    let folder = Path::new(env!("CARGO_MANIFEST_DIR")).join("../../crates/voardusk/out");
     let archive = folder.join("libvoardusk.a");
     println!("cargo::rerun-if-changed={}", archive.display());
     if !archive.is_file() {
-        println!("cargo::error=there is no target/staticlib/libvoardusk.a: run `rt staticlib voardusk` at the repository's root first");
+        println!("cargo::error=there is no crates/voardusk/out/libvoardusk.a: run `rt lib` in crates/voardusk first");
         return;
     }
     println!("cargo::rustc-link-search=native={}", folder.display());
