@@ -3,7 +3,8 @@ use Rattle.std.specs.Prelude.{◌≡◌, [], ◌∷◌, ℕ, ◌*◌, ◌≤◌,
 use Rattle.std.proofs.Common.{ap, arith, mul-le-mul_left}
 use Rattle.integers.specs.Bridge.{abs_add, abs_mul}
 use Rattle.integers.specs.Ring.{◌:+◌, ◌:-◌, ◌:*◌, #, ring, $}
-use Rattle.integers.specs.Rounding.{round, rounded, round-near}
+use Rattle.integers.specs.Rounding.{round, rounded}
+use Rattle.integers.proofs.RoundingLaws.{round-near}
 use Rattle.integers.specs.Fraction.{Frac, ◌÷◌, whole, ◌+ᶠ◌, ◌-ᶠ◌, ◌×ᶠ◌, size, ◌≤ᶠ◌}
 use Rattle.integers.specs.Values.{positive-mul}
 use Rattle.road.specs.File.{Road}

@@ -4,7 +4,8 @@ use Rattle.std.proofs.Common.{ap, ◌∙◌, arith}
 use Rattle.integers.specs.Bridge.{int, nat, ◌⊕◌, ◌⊗◌, neg, eq!, eq?}
 use Rattle.integers.specs.Fraction.{◌÷◌, whole, opposite, ◌×ᶠ◌, ◌≈ᶠ◌}
 use Rattle.integers.specs.Values.{same-value, other_way, ◌then◌, mul-value, opposite-value, opposite_product}
-use Rattle.integers.specs.Rounding.{rounded, rounded-value, rounded-opposite}
+use Rattle.integers.specs.Rounding.{rounded}
+use Rattle.integers.proofs.RoundingLaws.{rounded-value, rounded-opposite}
 use Rattle.road.specs.File.{Road}
 use Rattle.road.specs.Lane.{lane_width}
 use Rattle.road.specs.Exact.{element_of, element_start, is_arc, height, Side, left, right, crossfall, edge_drop}

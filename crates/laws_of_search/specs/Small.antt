@@ -4,7 +4,8 @@ use Rattle.std.proofs.Common.{sym, subst, arith}
 use Rattle.std.proofs.Math.Decide.{dec_lt}
 use Rattle.integers.specs.Bridge.{nat, ◌⊖◌, abs!, abs_sum, abs_difference, abs_product}
 use Rattle.integers.specs.Ring.{◌:+◌, ◌:-◌, ring, $}
-use Rattle.integers.specs.Rounding.{round, rounded, round-size, round_over_zero}
+use Rattle.integers.specs.Rounding.{round, rounded, round_over_zero}
+use Rattle.integers.proofs.RoundingLaws.{round-size}
 use Rattle.integers.specs.Fraction.{Frac, ◌+ᶠ◌, ◌-ᶠ◌, ◌×ᶠ◌}
 use Rattle.road.specs.Exact.{from◌to◌}
 

@@ -11,8 +11,10 @@ use mir.Val.{SFits}
 use Rattle.integers.specs.Bridge.{nat, ◌⊕◌, ◌⊗◌, le!, lt!, abs_add, abs_mul, abs_product}
 use Rattle.integers.specs.Ring.{◌:+◌, ◌:*◌, #, ring, $}
 use Rattle.integers.specs.Fraction.{◌÷◌}
-use Rattle.integers.specs.Rounding.{floor, remainder, round, rounded, remainder-small}
-use Rattle.integers.specs.Width.{fits64, divisor, above_zero, parts-sum, small-parts, RoundParts}
+use Rattle.integers.specs.Rounding.{floor, remainder, round, rounded}
+use Rattle.integers.proofs.RoundingLaws.{remainder-small}
+use Rattle.integers.specs.Width.{fits64, divisor, above_zero, RoundParts}
+use Rattle.integers.proofs.WidthLaws.{parts-sum, small-parts}
 use Rattle.segment.specs.Sizes.{InCurve}
 use Rattle.segment.proofs.Laws.{times-low, floor-small}
 

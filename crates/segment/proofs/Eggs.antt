@@ -9,7 +9,8 @@ use lib.Signed.{◌≤ℤ◌, ◌<ℤ◌}
 use Rattle.integers.specs.Ring.{◌:+◌, ◌:-◌, ◌:*◌, ring, $}
 use Rattle.integers.specs.Fraction.{◌÷◌, ◌+ᶠ◌, ◌×ᶠ◌, ◌≈ᶠ◌}
 use Rattle.integers.specs.Values.{positive-mul}
-use Rattle.integers.specs.Rounding.{nearest_size, round, rounded, rounded-value, round-size, round_of_size}
+use Rattle.integers.specs.Rounding.{nearest_size, round, rounded, round_of_size}
+use Rattle.integers.proofs.RoundingLaws.{rounded-value, round-size}
 use Rattle.integers.specs.Width.{divisor, above_zero}
 use Rattle.segment.specs.Segment.{value_of}
 use Rattle.segment.specs.Sizes.{OnEgg, EggSizes}

@@ -12,7 +12,8 @@ use Rattle.integers.specs.Bridge.{nat, ◌⊗◌, lt!, abs_mul, abs_product}
 use Rattle.integers.specs.Ring.{◌:+◌, ◌:-◌, ◌:*◌, #, ring, $}
 use Rattle.integers.specs.Fraction.{◌÷◌, ◌+ᶠ◌, ◌×ᶠ◌}
 use Rattle.integers.specs.Values.{positive-mul}
-use Rattle.integers.specs.Rounding.{round, rounded, rounded-value}
+use Rattle.integers.specs.Rounding.{round, rounded}
+use Rattle.integers.proofs.RoundingLaws.{rounded-value}
 use Rattle.integers.specs.Width.{fits64, divisor, above_zero, Doubles}
 use Rattle.segment.specs.Segment.{SizedEnd, Sound, Joined, from_zero, to_zero, same-arc, egg, past, value_of, curvature_in}
 use Rattle.segment.specs.Sizes.{OfEnd, OnEgg}

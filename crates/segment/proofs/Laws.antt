@@ -12,7 +12,8 @@ use mir.Facts.{to_z-of_z}
 use Rattle.integers.specs.Bridge.{int, nat, ◌⊕◌, ◌⊗◌, eq!, eq?, le!, le?, lt!, abs_add, abs_mul, abs_product}
 use Rattle.integers.specs.Ring.{◌:*◌, ring, $}
 use Rattle.integers.specs.Fraction.{◌÷◌}
-use Rattle.integers.specs.Rounding.{floor, round, rounded, round-scale, round-from, round-upto}
+use Rattle.integers.specs.Rounding.{floor, round, rounded}
+use Rattle.integers.proofs.RoundingLaws.{round-scale, round-from, round-upto}
 use Rattle.integers.specs.Width.{fits64, divisor, above_zero, Doubles}
 use Rattle.segment.specs.Sizes.{InCurve, OfLane, OnSide, lane_of}
 use Rattle.segment.specs.declared.Lane.{Lane}

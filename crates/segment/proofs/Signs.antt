@@ -8,7 +8,8 @@ use lib.Signed.{◌≤ℤ◌, ◌<ℤ◌, non_neg}
 use mir.Syntax.{w64}
 use mir.Val.{Fits, SFits}
 use Rattle.integers.specs.Bridge.{int, nat, le!, lt?, abs_opposite}
-use Rattle.integers.specs.Rounding.{nearest_size, round, round_of_size, round-opposite}
+use Rattle.integers.specs.Rounding.{nearest_size, round, round_of_size}
+use Rattle.integers.proofs.RoundingLaws.{round-opposite}
 use Rattle.integers.specs.Width.{fits64}
 
 -- a number that is not below zero is its size

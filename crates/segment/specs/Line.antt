@@ -2,7 +2,8 @@
 use Rattle.std.specs.Prelude.{◌≡◌, List, [], ◌∷◌, ◌++◌, ℕ, suc, ◌*◌, ◌≤◌, ℤ, pos, ◌+ℤ◌, length}
 use Rattle.std.proofs.Common.{ap, append_assoc, arith}
 use Rattle.integers.specs.Bridge.{abs_add}
-use Rattle.integers.specs.Rounding.{rounded, rounded-value}
+use Rattle.integers.specs.Rounding.{rounded}
+use Rattle.integers.proofs.RoundingLaws.{rounded-value}
 use Rattle.decimal.specs.Decimal.{decimal, spaced}
 use Rattle.laws_of_lists.specs.All.{All}
 use Rattle.laws_of_lists.specs.All as all

@@ -6,7 +6,8 @@ use Rattle.std.proofs.Common.{mul-le-mul_left, mul-le-mul_right}
 use Rattle.std.proofs.Math.IntN.{pos, nat_abs}
 use Rattle.integers.specs.Bridge.{nat, ◌⊖◌, abs!, abs_sum, abs_product}
 use Rattle.integers.specs.Fraction.{Frac, ◌÷◌}
-use Rattle.integers.specs.Rounding.{rounded, round-size}
+use Rattle.integers.specs.Rounding.{rounded}
+use Rattle.integers.proofs.RoundingLaws.{round-size}
 use Rattle.integers.specs.Values.{positive-mul}
 use Rattle.integers.specs.Width.{above_zero}
 use Rattle.road.specs.Exact.{Side}

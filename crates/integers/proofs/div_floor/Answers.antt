@@ -6,7 +6,8 @@ use mir.Syntax.{w64}
 use mir.Val.{SFits}
 use mir.Facts.{to_z-of_z}
 use Rattle.integers.specs.Rounding.{floor}
-use Rattle.integers.specs.Width.{quot_fits, rem_fits, floor-fits, machine_floor}
+use Rattle.integers.specs.Width.{quot_fits, rem_fits}
+use Rattle.integers.proofs.WidthLaws.{floor-fits, machine_floor}
 use Rattle.integers.proofs.div_floor.Goals as goal
 
 module _ (c : goal.Then-n-d-lt0) where

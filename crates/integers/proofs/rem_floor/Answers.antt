@@ -6,7 +6,8 @@ use mir.Syntax.{w64}
 use mir.Val.{SFits}
 use mir.Facts.{to_z-of_z}
 use Rattle.integers.specs.Rounding.{remainder}
-use Rattle.integers.specs.Width.{rem_fits, remainder-fits, machine_remainder}
+use Rattle.integers.specs.Width.{rem_fits}
+use Rattle.integers.proofs.WidthLaws.{remainder-fits, machine_remainder}
 use Rattle.integers.proofs.rem_floor.Goals as goal
 
 module _ (c : goal.Then-m-lt0) where

@@ -6,7 +6,8 @@ use mir.Val.{SFits}
 use mir.Facts.{to_z-of_z}
 use Rattle.integers.specs.Bridge.{int, nat, lt!, lt?}
 use Rattle.integers.specs.Rounding.{round}
-use Rattle.integers.specs.Width.{lt_taken, lt_left, above_zero, round-fits, opposite-fits, round-above, round-below}
+use Rattle.integers.specs.Width.{lt_taken, lt_left, above_zero, opposite-fits, round-above, round-below}
+use Rattle.integers.proofs.WidthLaws.{round-fits}
 use Rattle.integers.proofs.round_div.Goals as goal
 use Rattle.integers.proofs.round_div.Goals.{After-nearest_size}
 

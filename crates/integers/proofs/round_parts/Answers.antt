@@ -5,7 +5,8 @@ use Rattle.std.specs.Int.Signed.{lt_z}
 use Rattle.std.specs.Int.{w64}
 use mir.Val.{SFits}
 use mir.Facts.{to_z-of_z}
-use Rattle.integers.specs.Rounding.{negative, round, round-half}
+use Rattle.integers.specs.Rounding.{negative, round}
+use Rattle.integers.proofs.RoundingLaws.{round-half}
 use Rattle.integers.specs.Width.{RoundParts, less-fits}
 use Rattle.integers.proofs.round_parts.Goals as goal
 use Rattle.integers.proofs.round_parts.Goals.{Else-lowered-d}

@@ -1,0 +1,2 @@
+pub mod RoundingLaws
+pub mod WidthLaws
