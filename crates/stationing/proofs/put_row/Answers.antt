@@ -1,0 +1,27 @@
+-- The station's piece of road shows what the exact road says there, and its line is written over the buffer's first bytes.
+use Rattle.std.proofs.Common.{List, ℕ, ◌≤◌, length, ap, ◌∙◌, arith}
+use Rattle.road.specs.File.{Road}
+use Rattle.road.specs.Exact.{total}
+use Rattle.road.specs.Machine.{overwrite}
+use Rattle.segment.specs.Segment.{Shows}
+use Rattle.segment.specs.Line.{line-shows}
+use Rattle.cursors.specs.View.{Viewed}
+use Rattle.cursors.specs.declared.View.{View}
+use Rattle.stationing.specs.Routines.{overwritten}
+use Rattle.stationing.proofs.put_row.Goals as goal
+
+pub view_at-view-requires-clause-reached : goal.view_at-view-requires-clause-reached
+view_at-view-requires-clause-reached c = c.start.ensures c.args.station
+
+-- the segment of a view says what the exact road says at its station
+shown : {r : Road} {v : View} (s : ℕ) → Viewed r v s → s ≤ total r → Shows r v.segment s
+shown s v h = v.shows s (omega arith) v.beyond h
+
+pub put_line-requires-clause-sound : goal.put_line-requires-clause-sound
+put_line-requires-clause-sound c = (shown c.args.station c.view_at-view.ensures c.requires.on_road).sound
+
+pub returns : goal.returns
+returns c =
+    let e = line-shows (shown c.args.station c.view_at-view.ensures c.requires.on_road) in
+    let w = overwritten c.put_line.ensures.wrote in
+    record { value = w.0 ∙ ap length e; line_after = w.1 ∙ ap (λ (l : List ℕ). overwrite l c.args.line.now) e }
