@@ -1,5 +1,5 @@
 -- A file that does not read keeps its refusal; one that reads is judged under the limits of its head, and gives that verdict's refusal or its road.
-use Rattle.std.proofs.Common.{◌≡◌, ℕ, sym, ap, ◌∙◌}
+use Rattle.std.proofs.Common.{◌≡◌, sym, ap, ◌∙◌}
 use Rattle.road.specs.Lane.{lane_width}
 use Rattle.road.specs.Held.{road_in}
 use Rattle.road.specs.Limits.{limits, limits_of}
