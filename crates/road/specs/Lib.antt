@@ -18,4 +18,3 @@ pub mod Starred
 pub mod AtLimits
 pub mod Text
 pub mod Sample
-pub mod Attained
