@@ -21,6 +21,11 @@ in_class class terrain r = record {
   crossfalls = r.crossfalls;
 }
 
+-- marks that are the same at each speed are the same along a list of speeds
+same_each : (f g : ℕ → Bool) → ((v : ℕ) → f v ≡ g v) → (speeds : List ℕ) → map f speeds ≡ map g speeds
+same_each f g same [] = refl
+same_each f g same (v ∷ later) = ap₂ (λ (m : Bool) (l : List Bool). m ∷ l) (same v) (same_each f g same later)
+
 module _ (class terrain : ℕ) (r : Road) where
   same_rule : (x : Rule) (l : Limits) → first_broken x l (in_class class terrain r) ≡ first_broken x l r
   unfolding first_broken other_total wrong_superelevation changes_on element_start tangent_start total point_at
@@ -36,14 +41,6 @@ module _ (class terrain : ℕ) (r : Road) where
   same_verdict [] l = refl
   same_verdict (x ∷ later) l = ap₂ (λ (o : Option ℕ) (v : Verdict). elim o [ some place ↦ breaks (road_test x).number place | none ↦ v ]) (same_rule x l) (same_verdict later l)
 
-  same_mark : (v : ℕ) → stands (in_class class terrain r) v ≡ stands r v
-  unfolding stands judged
-  same_mark v = ap is_passed (same_verdict order (limits_with v r))
-
-  same-each : (speeds : List ℕ) → map (stands (in_class class terrain r)) speeds ≡ map (stands r) speeds
-  same-each [] = refl
-  same-each (v ∷ later) = ap₂ (λ (m : Bool) (l : List Bool). m ∷ l) (same_mark v) (same-each later)
-
   pub same-marks : marks (in_class class terrain r) ≡ marks r
-  unfolding marks
-  same-marks = ap set_of (same-each tried_speeds)
+  unfolding marks stands judged
+  same-marks = ap set_of (same_each _ _ (λ v. ap is_passed (same_verdict order (limits_with v r))) tried_speeds)

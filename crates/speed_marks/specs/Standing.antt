@@ -3,7 +3,7 @@ use Rattle.std.specs.Prelude.{◌≡◌, refl, ◌↔◌, ℕ, zero, suc, ◌+�
 use Rattle.std.proofs.Common.{sym, ap, ◌∙◌, arith, ltb→lt, eqb→eq}
 use Rattle.file_numbers.specs.Reading.{Got, got, refused}
 use Rattle.road.specs.File.{Road, read}
-use Rattle.road.specs.Limits.{speeds, speed, limits_of, limits}
+use Rattle.road.specs.Limits.{Limits, speeds, speed, limits_of, limits}
 use Rattle.road.specs.Rules.{Verdict, passes, breaks, order, judged, accepted}
 use Rattle.road.specs.declared.Rule.{Rule}
 use Rattle.laws_of_lists.specs.Each.{all, each_below}
@@ -39,20 +39,25 @@ marks-below r = set_below (map (stands r) tried_speeds)
 
 -- ---- what a mark says
 
--- "if and only if the file passes every rule after the reading rules with that speed's row"
-pub stands_iff : (r : Road) (v : ℕ) → (stands r v ≡ true) ↔ ((rule : Rule) → Keeps rule (limits_with v r) r)
-unfolding stands judged
-stands_iff r v = (there, back)
+-- a road passes under limits exactly where it keeps every rule under them
+passed_iff : (l : Limits) (r : Road) → (is_passed (judged l r) ≡ true) ↔ ((rule : Rule) → Keeps rule l r)
+unfolding judged
+passed_iff l r = (there, back)
   where
     of : (x : Verdict) → is_passed x ≡ true → x ≡ passes
     of passes e = refl
     of (breaks n p) e = cc
 
-    there : stands r v ≡ true → (rule : Rule) → Keeps rule (limits_with v r) r
-    there e = kept_by_name (limits_with v r) r (passes_kept (limits_with v r) r order (of (judged (limits_with v r) r) e))
+    there : is_passed (judged l r) ≡ true → (rule : Rule) → Keeps rule l r
+    there e = kept_by_name l r (passes_kept l r order (of (judged l r) e))
 
-    back : ((rule : Rule) → Keeps rule (limits_with v r) r) → stands r v ≡ true
-    back kept = ap is_passed (kept-passes (limits_with v r) r order (λ j _. kept (rule_at order j)))
+    back : ((rule : Rule) → Keeps rule l r) → is_passed (judged l r) ≡ true
+    back kept = ap is_passed (kept-passes l r order (λ j _. kept (rule_at order j)))
+
+-- "if and only if the file passes every rule after the reading rules with that speed's row"
+pub stands_iff : (r : Road) (v : ℕ) → (stands r v ≡ true) ↔ ((rule : Rule) → Keeps rule (limits_with v r) r)
+unfolding stands
+stands_iff r v = passed_iff (limits_with v r) r
 
 -- ---- the class's own speed
 
@@ -89,14 +94,14 @@ own_is f r end e = let o = own_tried f r end e in mark_is r (own_mark r) o.withi
 
 -- the mark of the class's own speed stands exactly where the file is accepted
 pub own_mark_lem : (f : List ℕ) (r : Road) (end : ℕ) → (accepted f ≡ got r end) ↔ ((read f ≡ got r end) × (has_bit (marks r) (own_mark r) ≡ true))
-unfolding limits limits_of
+unfolding limits limits_of stands
 own_mark_lem f r end = (there, back)
   where
     there : accepted f ≡ got r end → (read f ≡ got r end) × (has_bit (marks r) (own_mark r) ≡ true)
-    there e = let h = (accepted_iff f r end).0 e in (h.0, own_is f r end h.0 ∙ (stands_iff r (own_speed r)).1 h.1)
+    there e = let h = (accepted_iff f r end).0 e in (h.0, own_is f r end h.0 ∙ (passed_iff (limits_with (own_speed r) r) r).1 h.1)
 
     back : (read f ≡ got r end) × (has_bit (marks r) (own_mark r) ≡ true) → accepted f ≡ got r end
-    back h = (accepted_iff f r end).1 (h.0, (stands_iff r (own_speed r)).0 (sym (own_is f r end h.0) ∙ h.1))
+    back h = (accepted_iff f r end).1 (h.0, (passed_iff (limits_with (own_speed r) r) r).0 (sym (own_is f r end h.0) ∙ h.1))
 
 -- ---- the refusals
 
