@@ -7,6 +7,7 @@ use Prim.Native.Nat.{ℕ, ◌≤◌}
 use lib.ListN.{length, replicate}
 use lib.Dec.{ltb}
 use denote.Ref.{Bor}
+use denote.MutBor.{MutBor}
 use borrow.Fn.Kinds.{Dens, ended_of}
 use denote.Triple.Clauses.{AtExit}
 use contract.Lifetimes.{Lfts}
@@ -90,16 +91,19 @@ any_listing {f = f} {b = b} ran = listing-seen f b (any_run ran)
 
 -- ---- any list of calls on any file and buffer has such a run, with the machine's answers
 
--- a reference to a list
+-- a reference to a list, and one that may change it
 reference : List ℕ → Bor (List ℕ)
 reference l = record { ref_ptr = (0, 0); now = l }
 
+changing : List ℕ → MutBor (List ℕ)
+changing l = record { ref_ptr = (0, 0); ghost_name = 0; now = l }
+
 row_made : (f : List ℕ) (s : ℕ) (b : List ℕ) (r : RowAnswer) → of_row r ≡ row_answer f s (length b) → RowMet f s b r (row_buffer f s b)
-unfolding reference
+unfolding reference changing
 row_made f s b r e = record {
   κs = ([], ([], tt));
-  args = (reference f, (s, (reference b, tt)));
-  ends = (reference f, (s, (reference (row_buffer f s b), tt)));
+  args = (reference f, (s, (changing b, tt)));
+  ends = (reference f, (s, (changing (row_buffer f s b), tt)));
   file = refl;
   station = refl;
   line = refl;

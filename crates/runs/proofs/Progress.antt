@@ -1,6 +1,6 @@
 -- How far a recorded run has come after k calls: what is written down, with what the machine still shows from here, is the whole run of the machine.
--- `start`, `turn` and `done` are the loop of `runs::run_sized`, said of lists alone.
-use mathlib.Core.Path.{◌≡◌, refl, sym, ap, ◌∙◌}
+-- `turn` and `done` are the loop of `runs::run_sized`, said of lists alone.
+use mathlib.Core.Path.{◌≡◌, sym, ap, ◌∙◌}
 use mathlib.Core.List.{List, [], ◌∷◌, ◌++◌, map, append_assoc, append-nil}
 use Prim.Native.Nat.{ℕ, suc, ◌+◌, ◌-◌, ◌*◌, ◌<◌, ◌≤◌}
 use native.Mathlib.Omega.{arith}
@@ -12,7 +12,7 @@ use Rattle.road.specs.Machine.{After, step, trace}
 use Rattle.laws_of_lines.specs.Buffer.{step-length}
 use Rattle.runs.specs.Answers.{code, first, second}
 use Rattle.runs.specs.Calls.{call_of, run_of}
-use Rattle.runs.specs.Recorded.{Recorded, CallRecorded, Room, Lent, last_buffer, frames_of}
+use Rattle.runs.specs.Recorded.{Recorded, CallRecorded, last_buffer, frames_of}
 use Rattle.runs.proofs.Seen.{seen-run}
 
 -- ---- one of the three numbers
@@ -21,9 +21,6 @@ use Rattle.runs.proofs.Seen.{seen-run}
 pub record Column (g : After → ℕ) (count k : ℕ) (xs : List ℕ) (remaining all : List After) : Type 0 where
   pub size : length xs ≡ count
   pub noted : take k xs ++ map g remaining ≡ map g all
-
-column-start : {count : ℕ} (g : After → ℕ) (xs : List ℕ) (all : List After) → length xs ≡ count → Column g count 0 xs all all
-column-start g xs all e = record { size = e; noted = refl }
 
 column-turn : {g : After → ℕ} {count k : ℕ} {xs : List ℕ} {t : After} {remaining all : List After} {xs' : List ℕ}
     → Column g count k xs (t ∷ remaining) all → k < count → xs' ≡ set xs k (g t) → Column g count (k + 1) xs' remaining all
@@ -81,35 +78,7 @@ less n k l h =
     let e : n - k ≡ suc (n - (k + 1)) = omega arith in
     ap (λ (m : ℕ). m * l) e ∙ (let p = suc-mul (n - (k + 1)) l in omega arith)
 
-pub start : {f b ks ss cs ns ps fs : List ℕ} → Lent (length ks) (length ss) (length cs) (length ns) (length ps) (length b) (length fs) → Progress f b ks ss 0 0 b cs ns ps fs
-start {f} {b} {ks} {ss} {cs} {ns} {ps} {fs} l =
-    let e : length ks - 0 ≡ length ks = omega arith in
-    let all : List After = run_of f b ks ss in
-    record {
-      passed = omega arith;
-      even = l.stations-size;
-      size = refl;
-      codes = column-start code cs all l.codes-size;
-      firsts = column-start first ns all l.firsts-size;
-      seconds = column-start second ps all l.seconds-size;
-      frames-size = l.frames-size;
-      room = (let p = ap (λ (m : ℕ). m * length b) e in omega arith);
-      framed = refl;
-      buffer = refl;
-    }
-
 module _ {f b₀ ks ss : List ℕ} {k at : ℕ} {b cs ns ps fs : List ℕ} (p : Progress f b₀ ks ss k at b cs ns ps fs) where
-  -- there is room for one more call
-  pub fits : k < length ks → Room k at (length b) (length cs) (length ns) (length ps) (length fs)
-  fits h =
-      let gone = less (length ks) k (length b₀) h in
-      record {
-        code = omega (arith, p.codes.size);
-        first = omega (arith, p.firsts.size);
-        second = omega (arith, p.seconds.size);
-        frame = omega (arith, p.size, p.room);
-      }
-
   pub turn : {b' cs' ns' ps' fs' : List ℕ} → k < length ks → CallRecorded f b (call_of (get_or ks k 0) (get_or ss k 0)) k at cs ns ps fs b' cs' ns' ps' fs'
       → Progress f b₀ ks ss (k + 1) (at + length b') b' cs' ns' ps' fs'
   turn {b'} {cs'} {ns'} {ps'} {fs'} h r =

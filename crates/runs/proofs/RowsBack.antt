@@ -35,19 +35,19 @@ frame_later : (size : ℕ) (ns : List ℕ) (n : ℕ) (fs : List ℕ) (i : ℕ) �
 frame_later size ns n fs i = ap (λ (l : List ℕ). take (get_or ns i 0) (take size l)) (ap (λ (m : ℕ). drop m fs) (suc-mul i size ∙ add_comm (i * size) size) ∙ sym (drop-drop (i * size) size fs))
 
 module _ (size : ℕ) where
-  recorded_row : (ks ss cs ns ps fs : List ℕ) (i : ℕ) → length ss ≡ length ks → length cs ≡ length ks → length ns ≡ length ks → length ps ≡ length ks → IsRow ks cs i
+  seen_row : (ks ss cs ns ps fs : List ℕ) (i : ℕ) → length ss ≡ length ks → length cs ≡ length ks → length ns ≡ length ks → length ps ≡ length ks → IsRow ks cs i
       → Memᴰ (recorded_row size ss ns fs i) (rows_of (calls_of ks ss) (seen_in size cs ns ps fs))
   unfolding rows_of
-  recorded_row [] ss cs ns ps fs i hs hc hn hp w = absurd (omega (arith, w.in_run))
-  recorded_row (k ∷ ks) [] cs ns ps fs i hs hc hn hp w = absurd (omega arith)
-  recorded_row (k ∷ ks) (s ∷ ss) [] ns ps fs i hs hc hn hp w = absurd (omega arith)
-  recorded_row (k ∷ ks) (s ∷ ss) (c ∷ cs) [] ps fs i hs hc hn hp w = absurd (omega arith)
-  recorded_row (k ∷ ks) (s ∷ ss) (c ∷ cs) (n ∷ ns) [] fs i hs hc hn hp w = absurd (omega arith)
-  recorded_row (k ∷ ks) (s ∷ ss) (c ∷ cs) (n ∷ ns) (p ∷ ps) fs zero hs hc hn hp w =
+  seen_row [] ss cs ns ps fs i hs hc hn hp w = absurd (omega (arith, w.in_run))
+  seen_row (k ∷ ks) [] cs ns ps fs i hs hc hn hp w = absurd (omega arith)
+  seen_row (k ∷ ks) (s ∷ ss) [] ns ps fs i hs hc hn hp w = absurd (omega arith)
+  seen_row (k ∷ ks) (s ∷ ss) (c ∷ cs) [] ps fs i hs hc hn hp w = absurd (omega arith)
+  seen_row (k ∷ ks) (s ∷ ss) (c ∷ cs) (n ∷ ns) [] fs i hs hc hn hp w = absurd (omega arith)
+  seen_row (k ∷ ks) (s ∷ ss) (c ∷ cs) (n ∷ ns) (p ∷ ps) fs zero hs hc hn hp w =
       rw (zero-mul size) (row_here size (rows_of (calls_of ks ss) (seen_in size cs ns ps (drop size fs))) k s c n p fs w.asked w.given)
-  recorded_row (k ∷ ks) (s ∷ ss) (c ∷ cs) (n ∷ ns) (p ∷ ps) fs (suc i) hs hc hn hp w =
+  seen_row (k ∷ ks) (s ∷ ss) (c ∷ cs) (n ∷ ns) (p ∷ ps) fs (suc i) hs hc hn hp w =
       row_later (call_of k s) (answer_of c n p) (take size fs)
-      (rw (frame_later size ns n fs i) (recorded_row ks ss cs ns ps (drop size fs) i (omega arith) (omega arith) (omega arith) (omega arith) (record { in_run = omega (arith, w.in_run); asked = w.asked; given = w.given })))
+      (rw (frame_later size ns n fs i) (seen_row ks ss cs ns ps (drop size fs) i (omega arith) (omega arith) (omega arith) (omega arith) (record { in_run = omega (arith, w.in_run); asked = w.asked; given = w.given })))
 
 module _ {f b ks ss b' cs ns ps fs : List ℕ} (r : Recorded f b ks ss b' cs ns ps fs) (even : length ss ≡ length ks) where
   column : (g : After → ℕ) (xs : List ℕ) → xs ≡ map g (run_of f b ks ss) → length xs ≡ length ks
@@ -57,7 +57,7 @@ module _ {f b ks ss b' cs ns ps fs : List ℕ} (r : Recorded f b ks ss b' cs ns 
   unfolding run_of
   row_of_run i w =
       subst (λ (ts : List After). Memᴰ (recorded_row (length b) ss ns fs i) (rows_of (calls_of ks ss) ts)) r.seen
-      (recorded_row (length b) ks ss cs ns ps fs i even (column code cs r.codes) (column first ns r.firsts) (column second ps r.seconds) w)
+      (seen_row (length b) ks ss cs ns ps fs i even (column code cs r.codes) (column first ns r.firsts) (column second ps r.seconds) w)
 
   -- demand 3, carried to what was recorded
   pub blade-recorded : BladeRecorded f (length b) ks ss cs ns fs

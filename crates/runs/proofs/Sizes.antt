@@ -1,38 +1,17 @@
 -- The sizes of what is lent to a run.
-use mathlib.Core.Path.{◌≡◌, refl, sym, ap, ◌∙◌}
-use mathlib.Core.Bool.{Bool, true, false, ◌&&◌}
-use Prim.Native.Nat.{ℕ, ◌*◌, ◌/◌, ◌%◌, ◌<◌}
-use native.Mathlib.Omega.{arith}
-use native.Mathlib.Nat.{mul-mod_left, mul-div_left, div-add-mod'}
+use mathlib.Core.Path.{◌≡◌, refl, ap, ◌∙◌}
+use mathlib.Core.Bool.{true, ◌&&◌}
+use Prim.Native.Nat.{ℕ, ◌*◌, ◌%◌}
+use native.Mathlib.Nat.{mul-mod_left}
 use lib.Dec.{eqb}
-use borrow.Author.Tests.{eq-eqb, ne_eqb, eqb-true, eqb-false}
+use borrow.Author.Tests.{eq-eqb, eqb-true}
 use Rattle.runs.specs.Recorded.{sized, Lent}
 use Rattle.laws_of_lists.specs.Tests.{and_yes}
 
-pub never : false ≡ true → ⊥
-never e = let z : ◌≡◌ {A = ℕ} 0 1 = cc in omega arith
-
 -- ---- the frames
-
--- two tests that say the same
-same_test : (a b c d : ℕ) → (a ≡ b → c ≡ d) → (c ≡ d → a ≡ b) → eqb a b ≡ eqb c d
-same_test a b c d f g = go (eqb a b) refl
-  where
-    go : (t : Bool) → eqb a b ≡ t → eqb a b ≡ eqb c d
-    go true e = e ∙ sym (eq-eqb c d (f (eqb-true a b e)))
-    go false e = e ∙ sym (ne_eqb c d (λ h. eqb-false a b e (g h)))
 
 pub no_rest : (n c s : ℕ) → (n % s ≡ 0 → ⊥) → n ≡ c * s → ⊥
 no_rest n c s h e = h (ap (λ (m : ℕ). m % s) e ∙ mul-mod_left c s)
-
-pub whole : (n c s : ℕ) → 0 < s → n % s ≡ 0 → eqb (n / s) c ≡ eqb n (c * s)
-whole n c s p h = same_test (n / s) c n (c * s) to of
-  where
-    to : n / s ≡ c → n ≡ c * s
-    to e = let d = div-add-mod' n s in let m = ap (λ (k : ℕ). k * s) e in omega arith
-
-    of : n ≡ c * s → n / s ≡ c
-    of e = ap (λ (m : ℕ). m / s) e ∙ mul-div_left c p
 
 -- ---- all that is lent
 
