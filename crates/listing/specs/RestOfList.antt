@@ -18,7 +18,8 @@ use Rattle.walk.specs.FittingRows.{Part, not_below, chunk, onward, answer}
 use Rattle.walk.specs.Parts.{fit_whole}
 use Rattle.walk.specs.NotBelow.{from_all}
 use Rattle.walk.specs.Inside.{listed-inside, chunk-fits}
-use Rattle.walk.specs.AllChunks.{remaining-from, onward-listed, onward-beyond, done-remaining}
+use Rattle.walk.specs.AllChunks.{onward-beyond, done-remaining}
+use Rattle.walk.proofs.AllChunksLaws.{remaining-from, onward-listed}
 use Rattle.walk.specs.declared.Chunk.{Chunk}
 use Rattle.walk.specs.declared.Onward.{Onward}
 use Rattle.walk.specs.declared.Onward.TheVariants.{From, Done}

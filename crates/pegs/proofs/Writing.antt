@@ -10,7 +10,7 @@ use Rattle.decimal.specs.Written.{Wrote, wrote_none, wrote-append, wrote-length}
 use Rattle.road.specs.File.{Road}
 use Rattle.road.specs.Exact.{total}
 use Rattle.segment.specs.Segment.{Shows, line_in}
-use Rattle.segment.specs.Line.{line-shows}
+use Rattle.segment.proofs.LineLaws.{line-shows}
 use Rattle.cursors.specs.Places.{PlaceReached}
 use Rattle.cursors.specs.View.{Viewed, viewed_later}
 use Rattle.cursors.specs.declared.View.{View}

@@ -6,3 +6,4 @@ pub mod Curve
 pub mod Fields
 pub mod Parts
 pub mod Written
+pub mod LineLaws

@@ -13,7 +13,8 @@ use Rattle.laws_of_lists.specs.All.{All}
 use Rattle.laws_of_lists.specs.All as all
 use Rattle.decimal.specs.Length.{Short}
 use Rattle.segment.specs.Segment.{Sound, numbers_in, list_of, line_in}
-use Rattle.segment.specs.Line.{four, line_halves, numbers-short, line-length}
+use Rattle.segment.specs.Line.{four, line_halves}
+use Rattle.segment.proofs.LineLaws.{numbers-short, line-length}
 use Rattle.segment.specs.declared.Segment.{Segment}
 use Rattle.segment.specs.declared.Numbers.{Numbers}
 

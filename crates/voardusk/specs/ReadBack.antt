@@ -16,7 +16,7 @@ use Rattle.laws_of_stations.specs.Next.{Least, least, nothing, next-least, liste
 use Rattle.laws_of_acceptance.specs.Refusals.{ByRule, refused_iff, read_number, rule_number, WithinOr}
 use Rattle.walk.specs.FittingRows.{chunk, onward, answer}
 use Rattle.walk.specs.Inside.{listed-inside}
-use Rattle.walk.specs.AllChunks.{onward-listed}
+use Rattle.walk.proofs.AllChunksLaws.{onward-listed}
 use Rattle.walk.specs.declared.Onward.{Onward}
 use Rattle.walk.specs.declared.Onward.TheVariants as onwards
 use Rattle.listing.specs.Chunks.{Listed, turned_away, part, list_on, list_answer}

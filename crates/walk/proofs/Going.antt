@@ -10,7 +10,7 @@ use Rattle.road.specs.Line.{line}
 use Rattle.road.specs.Machine.{overwrite}
 use Rattle.laws_of_acceptance.specs.Guaranteed.{Guaranteed}
 use Rattle.segment.specs.Segment.{line_in}
-use Rattle.segment.specs.Line.{line-shows}
+use Rattle.segment.proofs.LineLaws.{line-shows}
 use Rattle.cursors.specs.declared.View.{View}
 use Rattle.walk.specs.FittingRows.{not_below, Part, before, nothing, rows_that_fit, chunk, onward, answer}
 use Rattle.walk.specs.Parts.{before-before, fit_row, fit_full}

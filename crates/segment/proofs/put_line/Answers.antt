@@ -6,7 +6,7 @@ use native.Mathlib.Omega.{arith}
 use mir.Facts.{to_z-of_z}
 use Rattle.decimal.specs.Written.{Wrote}
 use Rattle.segment.specs.Segment.{line_in}
-use Rattle.segment.specs.Line.{line-length}
+use Rattle.segment.proofs.LineLaws.{line-length}
 use Rattle.segment.proofs.Parts.{first-room, rest-room, wrote-both}
 use Rattle.segment.proofs.Written.{first-half, second-half, numbers_fit, halves_line, halves_room}
 use Rattle.segment.proofs.put_line.Goals as goal

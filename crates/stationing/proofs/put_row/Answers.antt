@@ -4,7 +4,7 @@ use Rattle.road.specs.File.{Road}
 use Rattle.road.specs.Exact.{total}
 use Rattle.road.specs.Machine.{overwrite}
 use Rattle.segment.specs.Segment.{Shows}
-use Rattle.segment.specs.Line.{line-shows}
+use Rattle.segment.proofs.LineLaws.{line-shows}
 use Rattle.cursors.specs.View.{Viewed}
 use Rattle.cursors.specs.declared.View.{View}
 use Rattle.stationing.specs.Routines.{overwritten}
