@@ -6,7 +6,7 @@ use native.Mathlib.Omega.{arith}
 use native.Mathlib.Numerals.{add-one}
 use lib.ListN.{length, take}
 use lib.Seq.{take-length}
-use Rattle.decimal.specs.Written.{Wrote, wrote_none, wrote-append, wrote-length}
+use Rattle.decimal.specs.Written.{Wrote, wrote_none, wrote-append}
 use Rattle.road.specs.File.{Road}
 use Rattle.road.specs.Exact.{total}
 use Rattle.segment.specs.Segment.{Shows, line_in}
@@ -48,9 +48,6 @@ writing_starts {r} pegs z s = record {
 module _ {r : Road} {pegs z y : List ℕ} {v : View} {bytes i : ℕ} (w : Writing r pegs z y v bytes i) (room : 96 * length pegs ≤ length z) where
   written-fits : 0 + length (lines r (take i pegs)) ≤ length z
   written-fits = omega (arith, w.wrote.end, w.room, w.within)
-
-  pub writing_length : length y ≡ length z
-  writing_length = wrote-length w.wrote written-fits
 
   -- one row more, by a view of its station
   pub writing_more : Good (total r) pegs → i < length pegs → {u : View} → Viewed r u (peg_at pegs i) → {y' : List ℕ} {bytes' : ℕ} → Wrote y y' bytes (line_in u.segment (peg_at pegs i)) bytes' → bytes' ≤ bytes + 96
