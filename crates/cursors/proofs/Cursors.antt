@@ -1,9 +1,10 @@
 -- How a cursor moves on along a list.
+use Rattle.std.specs.Prelude.{if◌then◌else◌}
 use Rattle.std.proofs.Common.{◌≡◌, refl, sym, ap, ap₂, ◌∙◌, Bool, true, false, ◌&&◌, ℕ, zero, suc, ◌+◌, ◌-◌, ◌<◌, ◌≤◌, min, leb, ltb, length, get_or, ℤ, pos, ◌+ℤ◌, ◌*ℤ◌, arith, add-one}
 use borrow.Author.Tests.{lt-ltb, ltb-true, ltb-false, leb-true}
 use Rattle.std.proofs.Math.ListN.{get_or-eq_default}
 use Rattle.std.proofs.Math.IntN.{+ℤ_idr}
-use Rattle.road.specs.Base.{if◌then◌else◌, sum_of}
+use Rattle.road.specs.Base.{sum_of}
 use Rattle.laws_of_lists.specs.Tests.{and_left, and_right}
 use Rattle.road.specs.File.{Road}
 use Rattle.road.specs.Exact.{blank_element, element_of, tangent_of, point_of, element_start, tangent_start, rise}

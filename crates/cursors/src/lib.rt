@@ -2,8 +2,7 @@
 
 #![tactic(auto)]
 
-ghost use Rattle.std.specs.Prelude.{◌≡◌, ℕ, suc, ◌-◌, ◌≤◌, ◌<◌, min, length};
-ghost use Rattle.road.specs.Base.{if◌then◌else◌};
+ghost use Rattle.std.specs.Prelude.{◌≡◌, ℕ, suc, ◌-◌, ◌≤◌, ◌<◌, min, length, if◌then◌else◌};
 ghost use Rattle.road.specs.Exact.{blank_element, element_start, total};
 ghost use Rattle.road.specs.Lane.{lane_width};
 ghost use Rattle.road.specs.Held.{road_in};

@@ -1,4 +1,5 @@
 -- Whether 9 stands before the class, and what is read of the contract then. Assumes nothing.
+use Rattle.std.specs.Prelude.{if◌then◌else◌}
 use mathlib.Core.Path.{◌≡◌, refl, sym, ap, ap₂, ◌∙◌, subst}
 use mathlib.Core.Bool.{Bool, true, false, ◌&&◌}
 use mathlib.Core.List.{List}
@@ -10,7 +11,6 @@ use Rattle.file_numbers.specs.Reading.{Got, got, refused, and_then}
 use Rattle.file_numbers.specs.Refused.{refused_not_got}
 use Rattle.file_numbers.specs.Number.{number}
 use Rattle.laws_of_lists.specs.Tests.{true_false, and_left, and_right}
-use Rattle.road.specs.Base.{if◌then◌else◌}
 use Rattle.road.specs.File.{fitting, field, date, number_is, dated_fields, contract_fields}
 use Rattle.road.specs.declared.Contract.TheVariants.{Undated, Dated}
 use Rattle.fields.specs.Ends.{reached, onward, Reads}

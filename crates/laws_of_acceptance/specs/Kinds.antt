@@ -1,5 +1,5 @@
 -- Request A.3, refusal 7: the test by neighbours accepts exactly the allowed orders of kinds, and its place is the first where no allowed order goes on as the plan does.
-use Rattle.std.specs.Prelude.{◌≡◌, ◌↔◌, Bool, not, ◌||◌, List, [], ◌∷◌, ◌++◌, map, take, drop, ltb, eqb, pos}
+use Rattle.std.specs.Prelude.{◌≡◌, ◌↔◌, Bool, not, ◌||◌, List, [], ◌∷◌, ◌++◌, map, take, drop, ltb, eqb, pos, if◌then◌else◌}
 use Rattle.std.proofs.Math.Path.{refl}
 use Rattle.std.proofs.Common.{sym, ap, ◌∙◌, subst, inl, inr, append_assoc, eqb-true, lt-ltb, le-ltb, take-append-drop, drop_of_length-le, drop-cons, take-take}
 use Rattle.std.proofs.Math.Bool.{true, false, or-false}
@@ -9,7 +9,7 @@ use Rattle.std.proofs.Math.Numerals.{add-one}
 use native.Mathlib.Omega.{arith}
 use Rattle.std.proofs.Math.Decide.{dec_lt}
 use Rattle.std.proofs.Math.ListN.{length}
-use Rattle.road.specs.Base.{if◌then◌else◌, first_from, first_that}
+use Rattle.road.specs.Base.{first_from, first_that}
 use Rattle.road.specs.File.{Road}
 use Rattle.road.specs.Limits.{Limits}
 use Rattle.road.specs.Exact.{blank_element, element_of}

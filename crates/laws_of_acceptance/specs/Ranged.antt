@@ -1,10 +1,9 @@
 -- What holds of a road that was read: every number is in its range.
-use Rattle.std.specs.Prelude.{◌≡◌, refl, ℕ, zero, suc, ◌≤◌, Bool, true, false, ◌&&◌, List, [], ◌∷◌, length, T, leb, ltb, eqb, ℤ, pos, negsuc, nat_abs}
+use Rattle.std.specs.Prelude.{◌≡◌, refl, ℕ, zero, suc, ◌≤◌, Bool, true, false, ◌&&◌, List, [], ◌∷◌, length, T, leb, ltb, eqb, ℤ, pos, negsuc, nat_abs, if◌then◌else◌}
 use Rattle.std.proofs.Common.{sym, ap, ◌∙◌, subst, arith, leb→le}
 use Rattle.file_numbers.specs.Reading.{Got, got, refused, and_then, Reading}
 use Rattle.file_numbers.specs.Reading.{many}
 use Rattle.laws_of_lists.specs.All.{All, none, more}
-use Rattle.road.specs.Base.{if◌then◌else◌}
 use Rattle.laws_of_lists.specs.Tests.{and_T, true_false}
 use Rattle.road.specs.Exact.{is_arc}
 use Rattle.file_numbers.specs.Refused.{refused_not_got}

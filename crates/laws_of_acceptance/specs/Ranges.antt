@@ -1,5 +1,5 @@
 -- The ranges of an accepted road, item by item, and what rules 5 and 15 add to them.
-use Rattle.std.specs.Prelude.{◌≡◌, Bool, true, false, ℤ, pos}
+use Rattle.std.specs.Prelude.{◌≡◌, Bool, true, false, ℤ, pos, if◌then◌else◌}
 use Rattle.std.proofs.Math.Path.{subst}
 use Prim.Native.Nat.{ℕ, suc, ◌*◌, ◌-◌, ◌≤◌, ◌<◌}
 use native.Mathlib.Omega.{arith}
@@ -9,7 +9,6 @@ use Rattle.std.proofs.Math.ListN.{length}
 use Rattle.std.proofs.Math.IntN.{nat_abs}
 use Rattle.std.specs.Int.Signed.{lt_z}
 use Rattle.integers.specs.Bridge.{int, ◌⊖◌, eq!, abs?}
-use Rattle.road.specs.Base.{if◌then◌else◌}
 use Rattle.road.specs.File.{Road}
 use Rattle.road.specs.Limits.{limits}
 use Rattle.road.specs.Exact.{blank_element, blank_tangent, blank_crossfall, element_of, tangent_of, point_of, element_start, tangent_start, total, half_length, grade_change, Side, left, right, crossfall_of}

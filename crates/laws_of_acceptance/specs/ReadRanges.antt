@@ -1,9 +1,8 @@
 -- What reading a road says beyond its ranges: the start height's two ends, and no half length after the last tangent.
-use Rattle.std.specs.Prelude.{◌≡◌, Bool, true, false, List, [], ◌∷◌, ℕ, zero, suc, ◌-◌, length, get_or, ltb, ℤ, pos, negsuc, ◌≤ℤ◌}
+use Rattle.std.specs.Prelude.{◌≡◌, Bool, true, false, List, [], ◌∷◌, ℕ, zero, suc, ◌-◌, length, get_or, ltb, ℤ, pos, negsuc, ◌≤ℤ◌, if◌then◌else◌}
 use Rattle.std.proofs.Common.{sym, ap, ◌∙◌, subst, arith}
 use Rattle.std.specs.Int.Signed.{le_z}
 use Rattle.file_numbers.specs.Reading.{got, refused, and_then, many}
-use Rattle.road.specs.Base.{if◌then◌else◌}
 use Rattle.road.specs.File.{Road, Profile, field, signed, between, tangent, head_fields, plan_fields, profile_fields, crossfall_fields, road_of, fields, ended, read}
 use Rattle.road.specs.Exact.{blank_tangent}
 use Rattle.laws_of_acceptance.specs.Ranged.{went, field-within, signed-fits, many_items, TangentRange, tangent_range}

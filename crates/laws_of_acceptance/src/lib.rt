@@ -1,4 +1,3 @@
 // What acceptance guarantees of a road, and which files are turned away.
 
 #![tactic(auto)]
-

@@ -1,5 +1,5 @@
 -- The rows of a run: each is the exact road's line at its station, and its station is not beyond T.
-use Rattle.std.specs.Prelude.{◌≡◌, refl, ℕ, ◌≤◌, ◌⊎◌, Bool, not, length}
+use Rattle.std.specs.Prelude.{◌≡◌, refl, ℕ, ◌≤◌, ◌⊎◌, Bool, not, length, if◌then◌else◌}
 use Rattle.std.proofs.Common.{sym, subst, inl, inr}
 use Rattle.std.proofs.Math.Bool.{true, false}
 use mathlib.Core.List.Memᴰ
@@ -9,7 +9,6 @@ use Rattle.std.proofs.Math.ListN as L
 use Rattle.std.proofs.Math.Seq.{take-append_seam}
 use Rattle.std.proofs.Math.Dec.{T, ltb, nltb→le}
 use Rattle.file_numbers.specs.Reading.{Got, got}
-use Rattle.road.specs.Base.{if◌then◌else◌}
 use Rattle.road.specs.File.{Road}
 use Rattle.road.specs.Exact.{total}
 use Rattle.road.specs.Rules.{accepted}
@@ -39,7 +38,7 @@ module _ (r : Road) (end : ℕ) where
           pick (inl q) = subst (RowOf r) (sym q) here
           pick (inr m) = k m
 
-      short : (c : Bool) → Memᴰ a (row_in (row s) (if c then refusal 20 0 else if ltb (total r) s then refusal 21 0 else wrote (length (line r s))) (if c then b else if ltb (total r) s then b else overwrite (line r s) b) rows) → RowOf r a
+      short : (c : Bool) → Memᴰ a (row_in (row s) (if c then refusal 20 0 else (if ltb (total r) s then refusal 21 0 else wrote (length (line r s)))) (if c then b else (if ltb (total r) s then b else overwrite (line r s) b)) rows) → RowOf r a
       short true m = k m
       short false m = found (ltb (total r) s) refl m
 

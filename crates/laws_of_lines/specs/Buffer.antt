@@ -1,9 +1,8 @@
 -- "only its bytes change": a row call leaves a buffer as long as it was, and what lies past the line as it was.
-use Rattle.std.specs.Prelude.{◌≡◌, refl, Bool, true, false, List, ℕ, ◌≤◌, length, drop, ltb}
+use Rattle.std.specs.Prelude.{◌≡◌, refl, Bool, true, false, List, ℕ, ◌≤◌, length, drop, ltb, if◌then◌else◌}
 use Rattle.std.proofs.Common.{◌∙◌, arith, ltb-false, length-append, length-drop}
 use Rattle.std.proofs.Math.Seq.{drop-append_seam}
 use Rattle.file_numbers.specs.Reading.{Got, got, refused}
-use Rattle.road.specs.Base.{if◌then◌else◌}
 use Rattle.road.specs.File.{Road}
 use Rattle.road.specs.Exact.{total}
 use Rattle.road.specs.Rules.{accepted}
@@ -25,7 +24,7 @@ pub buffer-length : (f : List ℕ) (s : ℕ) (b : List ℕ) → length (row_buff
 unfolding row_buffer
 buffer-length f s b = go (accepted f) refl
   where
-    fits : (r : Road) (end : ℕ) → accepted f ≡ got r end → (c d : Bool) → ltb (length b) 96 ≡ c → ltb (total r) s ≡ d → length (if c then b else if d then b else overwrite (line r s) b) ≡ length b
+    fits : (r : Road) (end : ℕ) → accepted f ≡ got r end → (c d : Bool) → ltb (length b) 96 ≡ c → ltb (total r) s ≡ d → length (if c then b else (if d then b else overwrite (line r s) b)) ≡ length b
     fits r end e true d p q = refl
     fits r end e false true p q = refl
     fits r end e false false p q =

@@ -1,5 +1,5 @@
 -- Curvature: at an element's end both elements have one curvature, and a clothoid runs evenly from 0 to its arc's, or back, or from one arc's to another's.
-use Rattle.std.specs.Prelude.{◌≡◌, Bool, [], ◌∷◌, ℕ, zero, suc, ◌+◌, ◌*◌, ◌≤◌, ◌<◌, length, ℤ, pos, negsuc, nat_abs, ◌-ℤ◌}
+use Rattle.std.specs.Prelude.{◌≡◌, Bool, [], ◌∷◌, ℕ, zero, suc, ◌+◌, ◌*◌, ◌≤◌, ◌<◌, length, ℤ, pos, negsuc, nat_abs, ◌-ℤ◌, if◌then◌else◌}
 use Rattle.std.proofs.Math.Path.{refl, ap, ap₂}
 use Rattle.std.proofs.Common.{sym, ◌∙◌, subst, eqb-true, eq-eqb}
 use Rattle.std.proofs.Math.Bool.{true, false}
@@ -10,7 +10,6 @@ use Rattle.std.proofs.Math.Dec.{eqb}
 use Rattle.integers.specs.Ring.{◌:+◌, ◌:-◌, ◌:*◌, #, ring, $}
 use Rattle.integers.specs.Fraction.{Frac, ◌÷◌, whole, ◌+ᶠ◌, ◌-ᶠ◌, ◌×ᶠ◌, ◌≈ᶠ◌}
 use Rattle.integers.specs.Values.{positive-mul, same-value, other_way, ◌then◌}
-use Rattle.road.specs.Base.{if◌then◌else◌}
 use Rattle.road.specs.File.{Road}
 use Rattle.road.specs.Exact.{blank_element, element_of, element_start, element_at, is_straight, is_arc, is_clothoid, arc_curvature, end_curvature, start_curvature, clothoid_curvature, curvature_on, curvature, from◌to◌}
 use Rattle.road.specs.Rules.{element_before}
@@ -73,15 +72,15 @@ evenly-out S u w L p_s p_l e = record {
 module _ (r : Road) (i : ℕ) where
   on-straight : (s : ℕ) → (element_of r i).kind ≡ 0 → curvature_on r i s ≡ whole (pos 0)
   unfolding curvature_on
-  on-straight s e = ap (λ (k : ℕ). if eqb k 0 then whole (pos 0) else if eqb k 1 then arc_curvature (element_of r i).radius else clothoid_curvature r i s) e
+  on-straight s e = ap (λ (k : ℕ). if eqb k 0 then whole (pos 0) else (if eqb k 1 then arc_curvature (element_of r i).radius else clothoid_curvature r i s)) e
 
   on-arc : (s : ℕ) → (element_of r i).kind ≡ 1 → curvature_on r i s ≡ arc_curvature (element_of r i).radius
   unfolding curvature_on
-  on-arc s e = ap (λ (k : ℕ). if eqb k 0 then whole (pos 0) else if eqb k 1 then arc_curvature (element_of r i).radius else clothoid_curvature r i s) e
+  on-arc s e = ap (λ (k : ℕ). if eqb k 0 then whole (pos 0) else (if eqb k 1 then arc_curvature (element_of r i).radius else clothoid_curvature r i s)) e
 
   on-clothoid : (s : ℕ) → (element_of r i).kind ≡ 2 → curvature_on r i s ≡ clothoid_curvature r i s
   unfolding curvature_on
-  on-clothoid s e = ap (λ (k : ℕ). if eqb k 0 then whole (pos 0) else if eqb k 1 then arc_curvature (element_of r i).radius else clothoid_curvature r i s) e
+  on-clothoid s e = ap (λ (k : ℕ). if eqb k 0 then whole (pos 0) else (if eqb k 1 then arc_curvature (element_of r i).radius else clothoid_curvature r i s)) e
 
   end_zero : is_arc (element_of r i) ≡ false → end_curvature r i ≡ whole (pos 0)
   unfolding end_curvature
@@ -142,7 +141,7 @@ module _ {r : Road} (A : Accepted r) where
   unfolding curvature_on
   element-positive i s h = by (is_straight (element_of r i)) (is_arc (element_of r i)) refl
     where
-      by : (a b : Bool) → is_arc (element_of r i) ≡ b → 0 < (if a then whole (pos 0) else if b then arc_curvature (element_of r i).radius else clothoid_curvature r i s).den
+      by : (a b : Bool) → is_arc (element_of r i) ≡ b → 0 < (if a then whole (pos 0) else (if b then arc_curvature (element_of r i).radius else clothoid_curvature r i s)).den
       by true b q = omega arith
       by false true q = arc-positive i h q
       by false false q = clothoid-positive i s h

@@ -1,5 +1,5 @@
 -- How large the exact values of an accepted road are, up to T.
-use Rattle.std.specs.Prelude.{◌≡◌, Bool, List, ◌∷◌, take, ℤ, negsuc, ◌+ℤ◌, ◌-ℤ◌, ◌*ℤ◌}
+use Rattle.std.specs.Prelude.{◌≡◌, Bool, List, ◌∷◌, take, ℤ, negsuc, ◌+ℤ◌, ◌-ℤ◌, ◌*ℤ◌, if◌then◌else◌}
 use Rattle.std.proofs.Math.Path.{refl}
 use Rattle.std.proofs.Math.Bool.{true, false}
 use Rattle.std.proofs.Math.Option.{Option, none, some}
@@ -9,7 +9,7 @@ use Rattle.std.proofs.Math.Nat.{mul-le-mul_left}
 use Rattle.std.proofs.Math.ListN.{length}
 use Rattle.std.proofs.Math.IntN.{pos, nat_abs}
 use Rattle.integers.specs.Bridge.{abs_sum, abs_difference, abs_product}
-use Rattle.road.specs.Base.{if◌then◌else◌, sum_of}
+use Rattle.road.specs.Base.{sum_of}
 use Rattle.integers.specs.Fraction.{◌÷◌, whole, ◌+ᶠ◌, ◌-ᶠ◌, ◌×ᶠ◌}
 use Rattle.road.specs.File.{Road}
 use Rattle.road.specs.Exact.{total, tangent_of, point_of, element_of, element_start, element_at, is_straight, is_arc, tangent_start, tangent_at, vertex_count, vertex, half_length, grade_change, past, rise, start_height, tangent_height, in_curve, curve_at, curve_height, height_by, height, grade_by, grade, Side, crossfall_of, crossfall_by, crossfall, point_at, edge_drop, arc_curvature, end_curvature, start_curvature, clothoid_curvature, curvature_on, curvature, from◌to◌}
@@ -157,7 +157,7 @@ module _ {r : Road} (A : Accepted r) where
       kinds i (element-step r i) g.from (begun-upto g l) (is_straight (element_of r i)) (is_arc (element_of r i))
     where
       kinds : (i : ℕ) → element_start r (suc i) ≡ element_start r i + (element_of r i).length → element_start r i ≤ s → s ≤ element_start r (suc i) → (a b : Bool)
-          → Small (if a then whole (pos 0) else if b then arc_curvature (element_of r i).radius else start_curvature r i +ᶠ (end_curvature r (suc i) -ᶠ start_curvature r i) ×ᶠ ((from element_start r i to s) ÷ (element_of r i).length)) 3000000000
+          → Small (if a then whole (pos 0) else (if b then arc_curvature (element_of r i).radius else start_curvature r i +ᶠ (end_curvature r (suc i) -ᶠ start_curvature r i) ×ᶠ ((from element_start r i to s) ÷ (element_of r i).length))) 3000000000
       kinds i e low high true b = λ q. omega arith
       kinds i e low high false true = λ q. omega (arith, arc-curvature-small (element_of r i).radius q)
       kinds i e low high false false =

@@ -1,5 +1,5 @@
 -- Ascending lists: they are made by `ascending`, the least number from s on is their next one, and their members tell them apart.
-use Rattle.std.specs.Prelude.{◌≡◌, refl, Bool, true, false, ◌⊎◌, length, get_or, leb}
+use Rattle.std.specs.Prelude.{◌≡◌, refl, Bool, true, false, ◌⊎◌, length, get_or, leb, if◌then◌else◌}
 use Rattle.std.proofs.Common.{sym, ap, ap₂, ◌∙◌, inl, inr, arith, leb-true, leb-false, le-leb, eqb-true}
 use mathlib.Core.List.Memᴰ
 use mathlib.Core.List.{[], List, ◌∷◌, ◌++◌, Memᴰ}
@@ -7,7 +7,6 @@ use Rattle.std.proofs.Math.Option.{Option, none, some}
 use Prim.Native.Nat.{ℕ, zero, suc, ◌≤◌, ◌<◌, min, compare, Ordering}
 use Rattle.std.proofs.lemmas.Bool.{lt-leb, eqb-false}
 use Rattle.std.proofs.Math.Dec.{is_le, compare_is_eq}
-use Rattle.road.specs.Base.{if◌then◌else◌}
 use Rattle.road.specs.Listed.{insert, ascending, or_less, least_from}
 use Rattle.laws_of_lists.specs.All.{All}
 use Rattle.laws_of_lists.specs.All as all

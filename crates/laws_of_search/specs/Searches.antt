@@ -1,11 +1,11 @@
 -- What a search says: the least number that passes a test, and the least listed station of an ascending list.
-use Rattle.std.specs.Prelude.{◌≡◌, refl, Bool, true, false, List, [], ◌∷◌, T, leb}
+use Rattle.std.specs.Prelude.{◌≡◌, refl, Bool, true, false, List, [], ◌∷◌, T, leb, if◌then◌else◌}
 use Rattle.std.proofs.Common.{sym, ap, ◌∙◌, subst, arith, eqb→eq}
 use Prim.Native.Nat.{ℕ, zero, suc, ◌+◌, ◌<◌, ◌≤◌, min, compare, Ordering}
 use Rattle.std.proofs.Math.Decide.{ℕ_discrete, dec_lt}
 use Rattle.std.proofs.Math.Option.{Option, none, some}
 use Rattle.std.proofs.Math.Dec.{compare_is_eq}
-use Rattle.road.specs.Base.{first_from, first_that, if◌then◌else◌}
+use Rattle.road.specs.Base.{first_from, first_that}
 use Rattle.road.specs.Listed.{insert, ascending, counted, or_less, least_from}
 use Rattle.laws_of_lists.specs.Tests.{true_false}
 
@@ -121,7 +121,7 @@ swap_less x y (some z) = ap {B = Option ℕ} some (let e : min x (min y z) ≡ m
 pub counted_swap : (s x y : ℕ) (o : Option ℕ) → counted s x (counted s y o) ≡ counted s y (counted s x o)
 counted_swap s x y o = go (leb s x) (leb s y)
   where
-    go : (a b : Bool) → (if a then some (or_less x (if b then some (or_less y o) else o)) else if b then some (or_less y o) else o) ≡ (if b then some (or_less y (if a then some (or_less x o) else o)) else if a then some (or_less x o) else o)
+    go : (a b : Bool) → (if a then some (or_less x (if b then some (or_less y o) else o)) else (if b then some (or_less y o) else o)) ≡ (if b then some (or_less y (if a then some (or_less x o) else o)) else (if a then some (or_less x o) else o))
     go true true = swap_less x y o
     go true false = refl
     go false true = refl
@@ -134,7 +134,7 @@ same-less x (some z) = ap {B = Option ℕ} some (let e : min x (min x z) ≡ min
 counted_twice : (s x : ℕ) (o : Option ℕ) → counted s x (counted s x o) ≡ counted s x o
 counted_twice s x o = go (leb s x)
   where
-    go : (a : Bool) → (if a then some (or_less x (if a then some (or_less x o) else o)) else if a then some (or_less x o) else o) ≡ (if a then some (or_less x o) else o)
+    go : (a : Bool) → (if a then some (or_less x (if a then some (or_less x o) else o)) else (if a then some (or_less x o) else o)) ≡ (if a then some (or_less x o) else o)
     go true = same-less x o
     go false = refl
 

@@ -1,4 +1,3 @@
 // Laws of searches along lists: what the first, the last and the least item are.
 
 #![tactic(auto)]
-

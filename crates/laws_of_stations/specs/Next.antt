@@ -1,12 +1,11 @@
 -- What the next station is: the least listed one that is not below s; the ascending list has the same members.
-use Rattle.std.specs.Prelude.{◌≡◌, refl, Bool, true, false, ◌⊎◌, leb}
+use Rattle.std.specs.Prelude.{◌≡◌, refl, Bool, true, false, ◌⊎◌, leb, if◌then◌else◌}
 use Rattle.std.proofs.Common.{◌∙◌, inl, inr, arith, leb-true, leb-false}
 use mathlib.Core.List.Memᴰ
 use mathlib.Core.List.{List, [], ◌∷◌, Memᴰ}
 use Rattle.std.proofs.Math.Option.{Option, none, some}
 use Prim.Native.Nat.{ℕ, ◌≤◌, ◌<◌, min, compare, Ordering}
 use Rattle.std.proofs.Math.Decide.{dec_le}
-use Rattle.road.specs.Base.{if◌then◌else◌}
 use Rattle.road.specs.File.{Road}
 use Rattle.road.specs.Listed.{insert, ascending, listed, stations, or_less, least_from, next_listed}
 use Rattle.laws_of_search.specs.Ascends.{equal}

@@ -1,5 +1,5 @@
 -- Document 01, "Listed stations, ascending, each one time": which stations are listed, each of them, and none twice.
-use Rattle.std.specs.Prelude.{◌≡◌, Bool, ◌⊎◌, ◌↔◌, ℕ, suc, ◌+◌, ◌*◌, ◌-◌, ◌/◌, ◌≤◌, ◌<◌, length, get_or}
+use Rattle.std.specs.Prelude.{◌≡◌, Bool, ◌⊎◌, ◌↔◌, ℕ, suc, ◌+◌, ◌*◌, ◌-◌, ◌/◌, ◌≤◌, ◌<◌, length, get_or, if◌then◌else◌}
 use Rattle.std.proofs.Math.Path.{refl}
 use Rattle.std.proofs.Common.{sym, ap, ◌∙◌, inl, inr, le-div_iff_mul-le}
 use Rattle.std.proofs.Math.Bool.{true, false}
@@ -8,7 +8,7 @@ use mathlib.Core.List.{List, [], ◌∷◌, ◌++◌, map, Memᴰ}
 use native.Mathlib.Omega.{arith}
 use borrow.Author.Tests.{eqb-true, eqb-false}
 use Rattle.std.proofs.Math.Dec.{eqb}
-use Rattle.road.specs.Base.{if◌then◌else◌, count_from, joined}
+use Rattle.road.specs.Base.{count_from, joined}
 use Rattle.road.specs.File.{Road}
 use Rattle.road.specs.Exact.{blank_crossfall, total, element_start, vertex_count, vertex, half_length, point_of}
 use Rattle.road.specs.Listed.{multiples, element_ends, curve_stations, stations, listed}

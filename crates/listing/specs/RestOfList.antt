@@ -1,12 +1,12 @@
 -- The whole list of a file from its parts: each part and the list from the station it goes on from are the list from where it began.
-use Rattle.std.specs.Prelude.{◌≡◌, refl, Bool, true, false, ℕ, ◌≤◌, ◌<◌, ltb, length, take, drop}
+use Rattle.std.specs.Prelude.{◌≡◌, refl, Bool, true, false, ℕ, ◌≤◌, ◌<◌, ltb, length, take, drop, if◌then◌else◌}
 use Rattle.std.proofs.Math.Path.{sym, ap, ap₂}
 use Rattle.std.proofs.Common.{◌∙◌, arith, ltb-false, le-ltb}
 use mathlib.Core.List.{List, [], ◌++◌}
 use Rattle.std.proofs.Math.ListN.{length-append}
 use Rattle.std.proofs.Math.Seq.{take-append_seam}
 use Rattle.file_numbers.specs.Reading.{Got, got, refused}
-use Rattle.road.specs.Base.{if◌then◌else◌, joined}
+use Rattle.road.specs.Base.{joined}
 use Rattle.road.specs.File.{Road}
 use Rattle.road.specs.Line.{line}
 use Rattle.road.specs.Listed.{listed}

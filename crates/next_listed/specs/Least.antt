@@ -1,9 +1,9 @@
 -- The least of some stations that is not below s, found one station after another.
-use Rattle.std.specs.Prelude.{◌≡◌, refl, List, [], ◌∷◌, ◌++◌, map, ℕ, ◌+◌, ◌-◌, eqb}
+use Rattle.std.specs.Prelude.{◌≡◌, refl, List, [], ◌∷◌, ◌++◌, map, ℕ, ◌+◌, ◌-◌, eqb, if◌then◌else◌}
 use Rattle.std.proofs.Common.{ap, ◌∙◌}
 use Rattle.std.proofs.Math.Option.{Option, none, some}
 use Rattle.road.specs.File.{Road}
-use Rattle.road.specs.Base.{if◌then◌else◌, joined, count_from}
+use Rattle.road.specs.Base.{joined, count_from}
 use Rattle.road.specs.Exact.{total, vertex_count}
 use Rattle.road.specs.Listed.{counted, multiples, element_ends, curve_stations, stations, least_from, next_listed}
 use Rattle.laws_of_search.specs.Searches.{counted_swap}

@@ -2,9 +2,8 @@
 
 #![tactic(auto)]
 
-ghost use Rattle.std.specs.Prelude.{◌≡◌, ◌≤◌};
+ghost use Rattle.std.specs.Prelude.{◌≡◌, ◌≤◌, if◌then◌else◌};
 ghost use Rattle.limits.specs.Row.{as_limits};
-ghost use Rattle.road.specs.Base.{if◌then◌else◌};
 ghost use Rattle.road.specs.Rules.{steep_tangent, short_tangent, sharp_vertex, tangent_test};
 
 use limits::Limits;

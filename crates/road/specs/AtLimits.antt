@@ -1,8 +1,8 @@
 -- The limits of refusals 1 to 23 at both their sides, about the meanings, as a table with one theorem.
 -- A limit that the table of speeds gives is tried at speeds whose rows differ there.
-use Rattle.std.specs.Prelude.{ℕ, suc, ◌+◌, ◌*◌, ◌≡◌, refl, List, [], ◌∷◌, ◌++◌, map, length, take, drop, replicate, eqb, ℤ, pos, negsuc, neg_ℤ}
+use Rattle.std.specs.Prelude.{ℕ, suc, ◌+◌, ◌*◌, ◌≡◌, refl, List, [], ◌∷◌, ◌++◌, map, length, take, drop, replicate, eqb, ℤ, pos, negsuc, neg_ℤ, if◌then◌else◌}
 use Rattle.file_numbers.specs.Number.{written}
-use Rattle.road.specs.Base.{if◌then◌else◌, count_from, joined, sum_of}
+use Rattle.road.specs.Base.{count_from, joined, sum_of}
 use Rattle.road.specs.Machine.{refusal, wrote}
 use Rattle.road.specs.Starred.{at40, file, road_file, slope, point, even, straight_road, tilted_bend, bend_road, vertex_road, the_number, the_row, the_file, the_curvature, Outcome, value, printed, passes, turned_away, answered, says, Item, item}
 use Rattle.road.specs.Compute.{computed}

@@ -1,7 +1,7 @@
 -- Document 01, "The exact road".
-use Rattle.std.specs.Prelude.{ℕ, zero, suc, ◌+◌, ◌*◌, ◌-◌, List, [], ◌∷◌, Bool, ◌&&◌, length, take, get_or, leb, ltb, eqb, ℤ, pos, ◌+ℤ◌, ◌-ℤ◌, ◌*ℤ◌}
+use Rattle.std.specs.Prelude.{ℕ, zero, suc, ◌+◌, ◌*◌, ◌-◌, List, [], ◌∷◌, Bool, ◌&&◌, length, take, get_or, leb, ltb, eqb, ℤ, pos, ◌+ℤ◌, ◌-ℤ◌, ◌*ℤ◌, if◌then◌else◌}
 use Rattle.std.proofs.Math.Option.{Option, none, some}
-use Rattle.road.specs.Base.{if◌then◌else◌, first_that, last_that, sum_of}
+use Rattle.road.specs.Base.{first_that, last_that, sum_of}
 use Rattle.integers.specs.Fraction.{Frac, ◌÷◌, whole, ◌over◌, ◌+ᶠ◌, ◌-ᶠ◌, ◌×ᶠ◌}
 use Rattle.road.specs.File.{Road}
 use Rattle.road.specs.Lane.{lane_width}
@@ -181,8 +181,8 @@ clothoid_curvature r i s =
 unfoldable pub curvature_on : Road → ℕ → ℕ → Frac
 curvature_on r i s =
     if is_straight (element_of r i) then whole (pos 0)
-    else if is_arc (element_of r i) then arc_curvature (element_of r i).radius
-    else clothoid_curvature r i s
+    else (if is_arc (element_of r i) then arc_curvature (element_of r i).radius
+    else clothoid_curvature r i s)
 
 unfoldable pub curvature : Road → ℕ → Frac
 curvature r s = curvature_on r (element_at r s) s

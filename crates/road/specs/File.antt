@@ -1,8 +1,7 @@
 -- Document 01, "The file", with request A.1: the fields in order, with their ranges.
-use Rattle.std.specs.Prelude.{ℕ, zero, suc, List, Bool, true, false, ◌&&◌, length, leb, ltb, eqb, ℤ, pos, negsuc, nat_abs}
+use Rattle.std.specs.Prelude.{ℕ, zero, suc, List, Bool, true, false, ◌&&◌, length, leb, ltb, eqb, ℤ, pos, negsuc, nat_abs, if◌then◌else◌}
 use Rattle.std.specs.Int.Signed.{le_z}
 use Rattle.file_numbers.specs.Reading.{Got, got, refused, and_then, Reading, ◌>>=◌, give, many}
-use Rattle.road.specs.Base.{if◌then◌else◌}
 use Rattle.file_numbers.specs.Number.{number, signed_of}
 use Rattle.days.specs.Day.{is_day}
 use Rattle.road.specs.declared.Contract.{Contract}

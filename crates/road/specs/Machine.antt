@@ -1,8 +1,7 @@
 -- Document 01, the two routines, and "The blade over a whole run": the plain machine.
-use Rattle.std.specs.Prelude.{ℕ, List, [], ◌∷◌, ◌++◌, length, drop, ltb}
+use Rattle.std.specs.Prelude.{ℕ, List, [], ◌∷◌, ◌++◌, length, drop, ltb, if◌then◌else◌}
 use Rattle.std.proofs.Math.Option.{Option, none, some}
 use Rattle.file_numbers.specs.Reading.{Got, got, refused}
-use Rattle.road.specs.Base.{if◌then◌else◌}
 use Rattle.road.specs.File.{Road}
 use Rattle.road.specs.Exact.{total}
 use Rattle.road.specs.Listed.{next_listed}
@@ -36,8 +35,8 @@ of_next Next.Nothing = no_station
 abbrev pub row_of : Road → (station room : ℕ) → Answer
 row_of r s room =
     if ltb room 96 then refusal 20 0
-    else if ltb (total r) s then refusal 21 0
-    else wrote (length (line r s))
+    else (if ltb (total r) s then refusal 21 0
+    else wrote (length (line r s)))
 
 abbrev pub row_on : (station room : ℕ) → Got Road → Answer
 row_on s room (refused n p) = refusal n p
@@ -55,8 +54,8 @@ overwrite l b = l ++ drop (length l) b
 abbrev pub buffer_of : Road → (station : ℕ) → List ℕ → List ℕ
 buffer_of r s b =
     if ltb (length b) 96 then b
-    else if ltb (total r) s then b
-    else overwrite (line r s) b
+    else (if ltb (total r) s then b
+    else overwrite (line r s) b)
 
 abbrev pub buffer_on : (station : ℕ) → List ℕ → Got Road → List ℕ
 buffer_on s b (refused _ _) = b

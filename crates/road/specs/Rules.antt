@@ -1,10 +1,10 @@
 -- Document 01, "Numbers that turn a file away": 5 to 19, and request A.3's 23. Each rule is a test of its item with those beside it; a table for each list gives it its number, and the order places it.
-use Rattle.std.specs.Prelude.{ℕ, zero, suc, ◌+◌, ◌*◌, ◌-◌, List, [], ◌∷◌, reverse, Bool, true, false, not, ◌&&◌, ◌||◌, length, take, get_or, leb, ltb, eqb, ℤ, pos, nat_abs, ◌-ℤ◌, neg_ℤ}
+use Rattle.std.specs.Prelude.{ℕ, zero, suc, ◌+◌, ◌*◌, ◌-◌, List, [], ◌∷◌, reverse, Bool, true, false, not, ◌&&◌, ◌||◌, length, take, get_or, leb, ltb, eqb, ℤ, pos, nat_abs, ◌-ℤ◌, neg_ℤ, if◌then◌else◌}
 use Rattle.std.proofs.Math.Option.{Option, none, some}
 use Rattle.std.proofs.Math.ListN as L
 use Rattle.std.specs.Int.Signed.{lt_z}
 use Rattle.file_numbers.specs.Reading.{Got, got, refused, and_then}
-use Rattle.road.specs.Base.{if◌then◌else◌, first_that}
+use Rattle.road.specs.Base.{first_that}
 use Rattle.road.specs.File.{Road, read}
 use Rattle.road.specs.Limits.{Limits, limits, ruled}
 use Rattle.road.specs.Exact.{blank_element, blank_tangent, blank_crossfall, element_of, tangent_of, tangent_before, point_of, is_straight, is_arc, is_clothoid, element_start, tangent_start, total, point_at, Side, left, right, crossfall_of}

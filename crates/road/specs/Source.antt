@@ -1,6 +1,6 @@
 -- The speeds and the tables of limits against their sources: annex 2 of the rule book (source document 001), table 3-03 and chapter 10; arc lengths and the old handbook's table from source document 003.
-use Rattle.std.specs.Prelude.{ℕ, ◌*◌, ◌≡◌, refl, List, [], ◌∷◌, map, get_or, take, drop, leb, eqb, true, false}
-use Rattle.road.specs.Base.{if◌then◌else◌, count_from}
+use Rattle.std.specs.Prelude.{ℕ, ◌*◌, ◌≡◌, refl, List, [], ◌∷◌, map, get_or, take, drop, leb, eqb, true, false, if◌then◌else◌}
+use Rattle.road.specs.Base.{count_from}
 use Rattle.road.specs.Limits.{speed, no_rule, table, cell, is_old, radius_min_at, clothoid_at, limits_at}
 use Rattle.road.specs.declared.Contract.{Contract}
 use Rattle.road.specs.declared.Contract.TheVariants.{Undated}

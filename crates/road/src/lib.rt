@@ -2,7 +2,6 @@
 
 #![tactic(auto)]
 
-
 // An element of the plan: kind 0 straight, 1 arc, 2 clothoid; the radius of what is no arc is 0.
 #[derive(Clone, Copy)]
 pub struct Element {

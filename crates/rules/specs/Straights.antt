@@ -1,10 +1,9 @@
 -- Refusal 9: the arcs before and after a straight, where the plan is in its order.
-use Rattle.std.specs.Prelude.{◌≡◌, refl, Bool, true, false, List, [], ◌∷◌, ℕ, zero, suc, ◌<◌, ◌≤◌, length, take, drop, get_or}
+use Rattle.std.specs.Prelude.{◌≡◌, refl, Bool, true, false, List, [], ◌∷◌, ℕ, zero, suc, ◌<◌, ◌≤◌, length, take, drop, get_or, if◌then◌else◌}
 use Rattle.std.proofs.Common.{sym, ap, ◌∙◌, arith, eqb-true, take-suc, drop-cons}
 use Rattle.std.proofs.lemmas.List.{reverse-append}
 use Rattle.std.proofs.Math.Decide.{dec_lt}
 use Rattle.std.proofs.Math.ListN.{get_or-eq_default}
-use Rattle.road.specs.Base.{if◌then◌else◌}
 use Rattle.road.specs.File.{Road}
 use Rattle.road.specs.Limits.{Limits}
 use Rattle.road.specs.Exact.{blank_element, element_of, is_straight, is_arc}

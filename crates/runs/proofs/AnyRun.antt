@@ -1,4 +1,5 @@
 -- Any list of calls, each of which met its routine's own contract, in the contract's generated reading, is the machine's run; so demand 3 holds of it, and the rest.
+use Rattle.std.specs.Prelude.{if◌then◌else◌}
 use mathlib.Core.Path.{◌≡◌, refl, ◌∙◌, subst}
 use mathlib.Core.Bool.{Bool, true, false}
 use mathlib.Core.Option.{Option}
@@ -12,7 +13,6 @@ use borrow.Fn.Kinds.{Dens, ended_of}
 use denote.Triple.Clauses.{AtExit}
 use contract.Lifetimes.{Lfts}
 use Rattle.file_numbers.specs.Reading.{Got, got, refused}
-use Rattle.road.specs.Base.{if◌then◌else◌}
 use Rattle.road.specs.File.{Road}
 use Rattle.road.specs.Exact.{total}
 use Rattle.road.specs.Line.{line}
@@ -123,7 +123,7 @@ row-answer f s room = by (accepted f)
     by (refused n p) = (Row.Refused n p, refl)
     by (got r end) = tests (ltb room 96) (ltb (total r) s)
       where
-        tests : (c d : Bool) → (a : RowAnswer) × (of_row a ≡ (if c then refusal 20 0 else if d then refusal 21 0 else wrote (length (line r s))))
+        tests : (c d : Bool) → (a : RowAnswer) × (of_row a ≡ (if c then refusal 20 0 else (if d then refusal 21 0 else wrote (length (line r s)))))
         tests true d = (Row.Refused 20 0, refl)
         tests false true = (Row.Refused 21 0, refl)
         tests false false = (Row.Length (length (line r s)), refl)

@@ -1,8 +1,7 @@
 -- Height and grade of a segment by cases: on a tangent, and in a vertical curve.
-use Rattle.std.specs.Prelude.{◌≡◌, Bool, true, false, ℕ, ◌*◌, ◌<◌, eqb, pos, ◌+ℤ◌, ◌*ℤ◌, nat_abs}
+use Rattle.std.specs.Prelude.{◌≡◌, Bool, true, false, ℕ, ◌*◌, ◌<◌, eqb, pos, ◌+ℤ◌, ◌*ℤ◌, nat_abs, if◌then◌else◌}
 use Rattle.std.proofs.Common.{arith, eq-eqb, ne_eqb}
 use Rattle.integers.specs.Fraction.{◌÷◌, whole}
-use Rattle.road.specs.Base.{if◌then◌else◌}
 use Rattle.segment.specs.Segment.{past, on_tangent, height_in, grade_in}
 use Rattle.segment.specs.declared.Segment.{Segment}
 

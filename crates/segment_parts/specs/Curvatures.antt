@@ -1,5 +1,5 @@
 -- The curvature of an element by its two ends says the exact curvature. A clothoid has its neighbours' at its ends, any other element its own at both.
-use Rattle.std.specs.Prelude.{◌≡◌, refl, Bool, true, false, ◌&&◌, ◌⊎◌, [], ◌∷◌, ℕ, zero, suc, ◌*◌, ◌≤◌, ◌<◌, eqb, length, ℤ, pos, negsuc, nat_abs, ◌-ℤ◌}
+use Rattle.std.specs.Prelude.{◌≡◌, refl, Bool, true, false, ◌&&◌, ◌⊎◌, [], ◌∷◌, ℕ, zero, suc, ◌*◌, ◌≤◌, ◌<◌, eqb, length, ℤ, pos, negsuc, nat_abs, ◌-ℤ◌, if◌then◌else◌}
 use Rattle.std.proofs.Common.{ap, ap₂, ◌∙◌, inl, inr, arith, eq-eqb, ne_eqb, le-ltb}
 use Rattle.std.proofs.Math.Decide.{ℕ_discrete, dec_lt}
 use Rattle.std.proofs.Math.ListN.{get_or-eq_default}
@@ -10,7 +10,6 @@ use Rattle.integers.specs.Values.{◌then◌, same-value, positive-mul}
 use Rattle.integers.specs.Width.{above_zero}
 use Rattle.road.specs.Rules.{right_turn, left_turn, same_turn, element_before}
 use Rattle.laws_of_lists.specs.Tests.{true_false, and_left, and_right, or_yes}
-use Rattle.road.specs.Base.{if◌then◌else◌}
 use Rattle.road.specs.File.{Road}
 use Rattle.road.specs.Exact.{blank_element, element_of, element_start, arc_curvature, start_curvature, end_curvature, clothoid_curvature, curvature_on, curvature, from◌to◌}
 use Rattle.laws_of_acceptance.specs.Ranged.{Within}
@@ -107,7 +106,7 @@ sized-end e arc = go (ℕ_discrete e.kind 1)
 -- ---- an element by its kind
 clothoid-is : (r : Road) (i s : ℕ) → (element_of r i).kind ≡ 2 → curvature_on r i s ≡ clothoid_curvature r i s
 unfolding curvature_on
-clothoid-is r i s e = ap (λ (k : ℕ). if eqb k 0 then whole (pos 0) else if eqb k 1 then arc_curvature (element_of r i).radius else clothoid_curvature r i s) e
+clothoid-is r i s e = ap (λ (k : ℕ). if eqb k 0 then whole (pos 0) else (if eqb k 1 then arc_curvature (element_of r i).radius else clothoid_curvature r i s)) e
 
 clothoid_by : (r : Road) (i y : ℕ)
     → clothoid_curvature r i y ≡ value_of (end_of (element_before r i)) +ᶠ (value_of (end_of (element_of r (suc i))) -ᶠ value_of (end_of (element_before r i))) ×ᶠ ((from element_start r i to y) ÷ (element_of r i).length)

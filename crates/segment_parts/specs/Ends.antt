@@ -1,6 +1,5 @@
 -- The curvature at the ends of an element, from the element and those beside it.
-use Rattle.std.specs.Prelude.{◌≡◌, refl, ℕ, suc, eqb, ℤ, pos, negsuc, nat_abs}
-use Rattle.road.specs.Base.{if◌then◌else◌}
+use Rattle.std.specs.Prelude.{◌≡◌, refl, ℕ, suc, eqb, ℤ, pos, negsuc, nat_abs, if◌then◌else◌}
 use Rattle.road.specs.File.{Road}
 use Rattle.road.specs.Exact.{element_of}
 use Rattle.road.specs.Rules.{element_before}

@@ -1,5 +1,5 @@
 -- The next joint: up to it the items stay the same and only multiples of step are listed, and it is listed itself. It is one of the three ends, or one past T.
-use Rattle.std.specs.Prelude.{◌≡◌, refl, Bool, true, false, leb}
+use Rattle.std.specs.Prelude.{◌≡◌, refl, Bool, true, false, leb, if◌then◌else◌}
 use Rattle.std.proofs.Math.Path.{ap}
 use Rattle.std.proofs.Common.{◌∙◌, subst, inl, inr, leb-true, leb-false}
 use mathlib.Core.List.{Memᴰ}
@@ -8,7 +8,6 @@ use native.Mathlib.Omega.{arith}
 use Rattle.std.proofs.Math.Decide.{dec_lt, dec_le}
 use Rattle.std.proofs.Math.Nat.{mul-mod_left}
 use Rattle.std.proofs.Math.ListN.{length}
-use Rattle.road.specs.Base.{if◌then◌else◌}
 use Rattle.road.specs.File.{Road}
 use Rattle.road.specs.Exact.{element_start, total}
 use Rattle.road.specs.Listed.{stations, listed}

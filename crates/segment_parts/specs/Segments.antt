@@ -1,6 +1,5 @@
 -- The segment of its parts, and the next joint.
-use Rattle.std.specs.Prelude.{ℕ, ◌+◌, min, leb, pos}
-use Rattle.road.specs.Base.{if◌then◌else◌}
+use Rattle.std.specs.Prelude.{ℕ, ◌+◌, min, leb, pos, if◌then◌else◌}
 use Rattle.segment.specs.declared.Segment.{Segment}
 use Rattle.segment_parts.specs.declared.Piece.{Piece}
 use Rattle.segment_parts.specs.declared.Sides.{Sides}

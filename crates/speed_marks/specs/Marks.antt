@@ -1,7 +1,6 @@
 -- Request A.4, "Which speeds would it pass?": the seven marks of a file.
-use Rattle.std.specs.Prelude.{ℕ, ◌+◌, ◌*◌, Bool, true, false, List, [], ◌∷◌, map}
+use Rattle.std.specs.Prelude.{ℕ, ◌+◌, ◌*◌, Bool, true, false, List, [], ◌∷◌, map, if◌then◌else◌}
 use Rattle.file_numbers.specs.Reading.{Got, got, refused}
-use Rattle.road.specs.Base.{if◌then◌else◌}
 use Rattle.road.specs.File.{Road, read}
 use Rattle.road.specs.Limits.{Limits, limits_at}
 use Rattle.road.specs.Rules.{Verdict, passes, breaks, judged}

@@ -1,9 +1,8 @@
 -- The numbers of a call say its answer: no refusal has the number 0, and no station is what stands for none.
-use Rattle.std.specs.Prelude.{◌≡◌, refl, Bool, true, false, List, ◌⊎◌, ℕ, zero, suc, ◌*◌, ◌≤◌, ltb, eqb, length}
+use Rattle.std.specs.Prelude.{◌≡◌, refl, Bool, true, false, List, ◌⊎◌, ℕ, zero, suc, ◌*◌, ◌≤◌, ltb, eqb, length, if◌then◌else◌}
 use Rattle.std.proofs.Common.{ap, inl, inr, arith, ne_eqb}
 use Rattle.std.proofs.Math.Option.{Option, none, some}
 use Rattle.file_numbers.specs.Reading.{Got, got, refused}
-use Rattle.road.specs.Base.{if◌then◌else◌}
 use Rattle.road.specs.File.{Road, read}
 use Rattle.road.specs.Exact.{total}
 use Rattle.road.specs.Line.{line}
@@ -96,7 +95,7 @@ pub row_read_back : (f : List ℕ) (s room : ℕ) → RowBack (row_answer f s ro
 unfolding row_answer
 row_read_back f s room = go (accepted f) refl
   where
-    by : (n : ℕ) (short beyond : Bool) → RowBack (if short then refusal 20 0 else if beyond then refusal 21 0 else wrote n)
+    by : (n : ℕ) (short beyond : Bool) → RowBack (if short then refusal 20 0 else (if beyond then refusal 21 0 else wrote n))
     by n true beyond = refl
     by n false true = refl
     by n false false = refl

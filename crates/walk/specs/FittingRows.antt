@@ -1,6 +1,5 @@
 -- The listed stations from a station on, and the rows of them that fit a buffer.
-use Rattle.std.specs.Prelude.{true, false, List, [], ◌∷◌, ◌++◌, ℕ, ◌-◌, leb, length}
-use Rattle.road.specs.Base.{if◌then◌else◌}
+use Rattle.std.specs.Prelude.{true, false, List, [], ◌∷◌, ◌++◌, ℕ, ◌-◌, leb, length, if◌then◌else◌}
 use Rattle.road.specs.File.{Road}
 use Rattle.road.specs.Listed.{listed}
 use Rattle.road.specs.Line.{line}

@@ -1,6 +1,6 @@
 -- The element stays at or before x; the loop ends where the next one begins beyond it.
+use Rattle.std.specs.Prelude.{if◌then◌else◌}
 use Rattle.std.proofs.Common.{◌≡◌, ap, ap₂, ◌∙◌, ℕ, suc, ◌+◌, ltb, get_or, arith, rules}
-use Rattle.road.specs.Base.{if◌then◌else◌}
 use Rattle.road.specs.Exact.{blank_element, element_of}
 use Rattle.road.specs.Rules.{element_before}
 use Rattle.road.specs.Held.{road_in}
