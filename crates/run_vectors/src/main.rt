@@ -2,6 +2,8 @@
 
 #![tactic(auto)]
 
+ghost use Rattle.std.specs.Prelude.{◌≡◌, length};
+
 use road::{NextAnswer, RowAnswer};
 
 fn hex_digit(n: u8) -> u8 {
@@ -132,8 +134,15 @@ fn one_run(rt: &impl Print, input: &[u8], at: usize) -> usize {
     run_calls(rt, input, calls.next, calls.value, file, line)
 }
 
+// Room for all of the input; its length is what lending it asks for.
+fn room() -> [u8; 524288]
+    ensures { 524288 ≡ length result }
+{
+    [0; 524288]
+}
+
 fn main(rt: HostRuntime) {
-    let mut space = [0u8; 524288];
+    let mut space = room();
     let count = streams::read_full(&mut rt.stdin(), &mut space);
     let input = &space[..count];
     let mut at = 0;
