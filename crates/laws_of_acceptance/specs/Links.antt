@@ -1,6 +1,6 @@
 -- Rule 23, in words: the arcs beside an egg, and those around a pair of clothoids.
-use Rattle.std.specs.Prelude.{◌≡◌, refl, Bool, true, false, not, ◌&&◌, ◌||◌, ℕ, suc, ◌≤◌, ltb, eqb, ℤ, nat_abs}
-use Rattle.std.proofs.Common.{arith, ltb-false, eq-eqb}
+use Rattle.std.specs.Prelude.{◌≡◌, Bool, true, false, not, ◌||◌, ℕ, suc, ◌≤◌, ltb, eqb, ℤ, nat_abs}
+use Rattle.std.proofs.Common.{ltb-false, eq-eqb}
 use Rattle.std.proofs.lemmas.Bool.{not-false}
 use Rattle.laws_of_lists.specs.Tests.{or_left, or_right, true_false}
 use Rattle.road.specs.File.{Road}

@@ -1,5 +1,5 @@
 -- What holds of an accepted road: its numbers are in range, no rule is broken, the facts that follow from that, and the crossfall's denominator is above 0.
-use Rattle.std.specs.Prelude.{◌≡◌, refl, ℕ, ◌-◌, ◌<◌, List}
+use Rattle.std.specs.Prelude.{◌≡◌, refl, ℕ, ◌<◌, List}
 use Rattle.std.proofs.Common.{subst, arith, eqb-true, ltb-false}
 use Rattle.std.proofs.lemmas.Bool.{not-false}
 use Rattle.file_numbers.specs.Reading.{got}

@@ -13,7 +13,7 @@ use Rattle.road.specs.File.{Road}
 use Rattle.road.specs.Exact.{total}
 use Rattle.road.specs.Rules.{accepted}
 use Rattle.road.specs.Line.{line}
-use Rattle.road.specs.Machine.{Call, row, next, refusal, wrote, station, row_on, buffer_on, row_answer, row_buffer, overwrite, step, trace}
+use Rattle.road.specs.Machine.{Call, row, next, refusal, wrote, row_on, buffer_on, row_answer, row_buffer, overwrite, step, trace}
 use Rattle.road.specs.Demand.{Row, row_in, rows_of}
 
 pub record RowOf (r : Road) (a : Row) : Type 0 where

@@ -1,4 +1,3 @@
 // A line is at most 96 bytes, and what the buffer holds after a call.
 
 #![tactic(auto)]
-

@@ -1,5 +1,5 @@
 -- Document 01, "The blade over a whole run": which curve two rows lie in, and the value of the bound.
-use Rattle.std.specs.Prelude.{◌≡◌, refl, ◌↔◌, Bool, true, false, ◌&&◌, ℕ, ◌+◌, ◌*◌, ◌-◌, ◌≤◌, ◌<◌, pos, nat_abs}
+use Rattle.std.specs.Prelude.{◌≡◌, refl, ◌↔◌, Bool, true, false, ◌&&◌, ℕ, ◌*◌, ◌-◌, ◌≤◌, ◌<◌, pos, nat_abs}
 use Rattle.std.proofs.Common.{sym, ap, ap₂, ◌∙◌, arith}
 use Rattle.std.proofs.Math.Option.{Option, none, some}
 use Rattle.integers.specs.Bridge.{nat, ◌⊖◌, abs!, abs?}

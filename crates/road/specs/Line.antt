@@ -1,5 +1,5 @@
 -- Document 01, "One list, whole": the line of a station.
-use Rattle.std.specs.Prelude.{ℕ, ◌+◌, ◌/◌, ◌%◌, List, [], ◌∷◌, ◌++◌, ℤ, pos, negsuc, ◌+ℤ◌}
+use Rattle.std.specs.Prelude.{ℕ, List, [], ◌∷◌, ℤ, pos, ◌+ℤ◌}
 use Rattle.road.specs.File.{Road}
 use Rattle.integers.specs.Rounding.{rounded}
 use Rattle.decimal.specs.Decimal.{spaced}

@@ -1,5 +1,5 @@
 -- Document 01, "The blade over a whole run" and "Numbers that turn a file away": the listing program's run, and what it prints.
-use Rattle.std.specs.Prelude.{ℕ, zero, suc, ◌≤◌, ◌≡◌, List, [], ◌∷◌, ◌++◌, map, pos, length}
+use Rattle.std.specs.Prelude.{ℕ, zero, suc, ◌≤◌, ◌≡◌, List, [], ◌∷◌, map, pos, length}
 use Rattle.file_numbers.specs.Reading.{Got, got, refused}
 use Rattle.road.specs.Base.{joined}
 use Rattle.road.specs.File.{Road}

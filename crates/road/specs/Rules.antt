@@ -7,7 +7,7 @@ use Rattle.file_numbers.specs.Reading.{Got, got, refused, and_then}
 use Rattle.road.specs.Base.{first_that}
 use Rattle.road.specs.File.{Road, read}
 use Rattle.road.specs.Limits.{Limits, limits, ruled}
-use Rattle.road.specs.Exact.{blank_element, blank_tangent, blank_crossfall, element_of, tangent_of, tangent_before, point_of, is_straight, is_arc, is_clothoid, element_start, tangent_start, total, point_at, Side, left, right, crossfall_of}
+use Rattle.road.specs.Exact.{blank_element, blank_crossfall, element_of, tangent_of, tangent_before, point_of, is_straight, is_arc, is_clothoid, element_start, tangent_start, total, point_at, Side, left, right, crossfall_of}
 use Rattle.road.specs.declared.LeastClothoid.{LeastClothoid}
 use Rattle.road.specs.declared.LeastClothoid.TheVariants.{Parameter, Length}
 use Rattle.road.specs.declared.Element.{Element}
