@@ -1,6 +1,6 @@
 -- The line of a refusal, part by part.
 use Rattle.std.specs.Prelude.{◌≡◌, List, [], ◌∷◌, ◌++◌, ℕ, ◌≤◌, ◌<◌, length}
-use Rattle.std.proofs.Common.{ap, ◌∙◌, append_assoc, arith}
+use Rattle.std.proofs.Common.{ap, append_assoc, arith}
 use Rattle.decimal.specs.Decimal.{digits, decimal, spaced}
 use Rattle.decimal.specs.Length.{digits-length}
 use Rattle.road.specs.Listing.{refusal_line}
