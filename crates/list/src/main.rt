@@ -3,7 +3,7 @@
 #![tactic(auto)]
 
 ghost use Rattle.std.specs.Prelude.{length};
-ghost use Rattle.list.specs.Within.{Within};
+ghost use Rattle.list.specs.Within.{Within, TakenFrom, FilledFrom};
 
 use std::io::{Read, Write};
 
@@ -16,7 +16,8 @@ enum Input {
 
 // One read into the rest of the buffer: its count, 0 at the input's end.
 fn read_once<R: Read>(input: &mut R, rest: &mut [u8]) -> Input
-    ensures { Within result (length rest.old) }
+    ensures within { Within result (length rest.old) }
+    ensures taken { TakenFrom (R.remaining input.old) (R.remaining input.new) result rest.new }
 {
     match input.read(rest) {
         Err(_) => Input::Failed,
@@ -26,7 +27,8 @@ fn read_once<R: Read>(input: &mut R, rest: &mut [u8]) -> Input
 
 // A read that failed may have been interrupted: it is tried once more.
 fn read_some<R: Read>(input: &mut R, rest: &mut [u8]) -> Input
-    ensures { Within result (length rest.old) }
+    ensures within { Within result (length rest.old) }
+    ensures taken { TakenFrom (R.remaining input.old) (R.remaining input.new) result rest.new }
 {
     match read_once(input, rest) {
         Input::Failed => read_once(input, rest),
@@ -36,7 +38,8 @@ fn read_some<R: Read>(input: &mut R, rest: &mut [u8]) -> Input
 
 // Reads until the buffer is full or the input ends. At most the buffer's length is looked at.
 fn read_input<R: Read>(input: &mut R, buffer: &mut [u8]) -> Input
-    ensures { Within result (length buffer.old) }
+    ensures within { Within result (length buffer.old) }
+    ensures filled { FilledFrom (R.remaining input.old) (R.remaining input.new) result buffer.new }
 {
     let mut done: usize = 0;
     while done < buffer.len() {
