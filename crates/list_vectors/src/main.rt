@@ -2,6 +2,8 @@
 
 #![tactic(auto)]
 
+ghost use Rattle.std.specs.Prelude.{◌≡◌, length};
+
 use std::io::Write;
 
 // Prints the list of the file that the input has from a place on; the place after it.
@@ -14,9 +16,16 @@ fn one_list<W: Write>(output: &mut W, input: &[u8], at: usize) -> usize {
     end
 }
 
+// Room for all of the input; its length is what lending it asks for.
+fn room() -> [u8; 524288]
+    ensures { 524288 ≡ length result }
+{
+    [0; 524288]
+}
+
 fn main(rt: HostRuntime) {
     let mut output = rt.stdout();
-    let mut space = [0u8; 524288];
+    let mut space = room();
     let count = streams::read_full(&mut rt.stdin(), &mut space);
     let input = &space[..count];
     let mut at = 0;
