@@ -1,4 +1,14 @@
--- Division downwards, and rounding to the nearest whole number: definitions over ℤ and a denominator above 0, and their laws, for all widths.
+-- The laws of division downwards and of rounding, for all widths.
+--
+--   floor, remainder   floor-sum, remainder-small; floor_of, remainder_of: no other two are so
+--   Nearest            nearest, rounding is so; nearest_is, nothing else is
+--   to use rounding    round-near (at most half a unit off), round-scale, rounded-value (the fraction's form does not matter), round-from, round-upto,
+--                      round-size (bounds); all of them are true whichever way an exact half goes
+--   round-opposite     the opposite of a number is rounded to the opposite, what request A.2 is for; rounded-opposite, of a fraction
+--   round-half         the law of what an exact half does, for the function `round_parts` alone; size_less, size-more, for `nearest_parts` alone
+--
+-- Another rule for an exact half changes the two proofs of `Nearest`, `round-opposite`, the proof of `round-scale`, `round-half`, `size_less` and
+-- `size-more`. The laws after `round-scale` rest on it and on `round-near` alone, and so does Width but for what it says of the code's functions.
 use Rattle.std.specs.Prelude.{◌≡◌, refl, Bool, true, false, cond, [], ◌∷◌, ℕ, zero, suc, ◌+◌, ◌*◌, ◌-◌, ◌≤◌, ◌<◌, ℤ, pos, negsuc, ◌+ℤ◌, ◌-ℤ◌, ◌*ℤ◌, neg_ℤ, nat_abs, ◌≤ℤ◌, ◌<ℤ◌}
 use Rattle.std.proofs.Common.{sym, ap, ap₂, ◌∙◌, arith, mul-le-mul_left, mul_comm, le_antisymm}
 use Rattle.std.proofs.Math.Decide.{dec_lt}

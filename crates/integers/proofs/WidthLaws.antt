@@ -1,4 +1,8 @@
--- What the machine's signed numbers hold, and what its division gives, for every width.
+-- What division downwards and rounding give, for every width.
+--
+--   a result fits            floor-fits, round-fits where the dividend fits; remainder-fits where the divisor fits
+--   to call `round_parts`    small-parts, for a whole part with room for one more
+--   after `round_parts`      parts-sum: what `div_floor` and `rem_floor` gave makes the dividend again
 use Rattle.std.specs.Prelude.{◌≡◌, Bool, cond, ℕ, ◌+◌, ◌≤◌, ◌<◌, ℤ, pos, negsuc, ◌+ℤ◌, ◌-ℤ◌, ◌*ℤ◌, nat_abs, ◌≤ℤ◌, ◌<ℤ◌}
 use Rattle.std.proofs.Common.{sym, arith, mul-le-mul_left}
 use Rattle.std.specs.Int.Signed.{lt_z, quot_z, rem_z, mag}

@@ -1,4 +1,4 @@
--- A line in two halves of four numbers; and what a segment that shows the road says of its line.
+-- What a segment that shows the road says of its line: how long it is, and that it is the line of the paper.
 use Rattle.std.specs.Prelude.{◌≡◌, ℕ, ◌≤◌, pos, ◌+ℤ◌, length}
 use Rattle.std.proofs.Common.{ap, arith}
 use Rattle.integers.specs.Bridge.{abs_add}

@@ -1,4 +1,4 @@
--- A line in two halves of four numbers; and what a segment that shows the road says of its line.
+-- A line in two halves of four numbers; and that a segment that shows the road has the numbers of its line.
 use Rattle.std.specs.Prelude.{◌≡◌, List, [], ◌∷◌, ◌++◌, ℕ, suc, ◌*◌, ◌≤◌, ℤ, length}
 use Rattle.std.proofs.Common.{append_assoc}
 use Rattle.integers.proofs.RoundingLaws.{rounded-value}

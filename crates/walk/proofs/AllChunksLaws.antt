@@ -1,4 +1,4 @@
--- A whole list in chunks: put together, they are the rows of the listing's run.
+-- A whole list in chunks: put together, they are the rows of the listing's run; and there are such calls.
 use Rattle.std.specs.Prelude.{◌≡◌, refl, ℕ, zero, suc, ◌+◌, ◌≤◌, ◌<◌}
 use Rattle.std.proofs.Math.Path.{sym, ap, ap₂}
 use Rattle.std.proofs.Common.{◌∙◌, subst, arith}

@@ -1,4 +1,4 @@
--- A whole list in chunks: put together, they are the rows of the listing's run.
+-- A whole list in chunks: the calls that list a road part by part, and the station to go on from.
 use Rattle.std.specs.Prelude.{◌≡◌, refl, ℕ, suc, ◌+◌, ◌-◌, ◌≤◌, ◌<◌, take, drop}
 use Rattle.std.proofs.Common.{arith}
 use mathlib.Core.List.Memᴰ
