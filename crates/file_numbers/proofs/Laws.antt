@@ -2,7 +2,7 @@
 use mathlib.Core.Path.{◌≡◌, refl, sym, ap, ap₂, ◌∙◌, subst}
 use mathlib.Core.List.{List}
 use mathlib.Core.Bool.{Bool, true, false, not, ◌&&◌}
-use mathlib.Core.Option.{Option, none, some, map}
+use Rattle.std.specs.Prelude.{Option, None, Some, option_map}
 use Prim.Native.Nat.{ℕ, suc, ◌+◌, ◌*◌, ◌/◌, ◌%◌, ◌^◌, ◌≤◌, ◌<◌}
 use native.Mathlib.Nat.{add-mul, mul_assoc, mul_comm}
 use native.Mathlib.Numerals.{add-one}
@@ -49,7 +49,7 @@ above n v w = grouped (w.value * 2 ^ (7 * n) + v) (n + w.count)
 
 -- the groups that n groups of value v and what follows make
 abbrev pub after : ℕ → ℕ → Option Groups → Option Groups
-after n v r = map (above n v) r
+after n v r = option_map (above n v) r
 
 above-lowest : (n v g : ℕ) (w : Groups) → above n v (lowest g w) ≡ above (n + 1) (g * 2 ^ (7 * n) + v) w
 above-lowest n v g w = ap₂ grouped value (omega arith)
@@ -62,28 +62,28 @@ above-lowest n v g w = ap₂ grouped value (omega arith)
         let e = ap (λ (x : ℕ). w.value * x) (place-next n) in
         omega arith
 
-after-lowest : (n v g : ℕ) (r : Option Groups) → after n v (map (lowest g) r) ≡ after (n + 1) (g * 2 ^ (7 * n) + v) r
-after-lowest n v g none = refl
-after-lowest n v g (some w) = ap some (above-lowest n v g w)
+after-lowest : (n v g : ℕ) (r : Option Groups) → after n v (option_map (lowest g) r) ≡ after (n + 1) (g * 2 ^ (7 * n) + v) r
+after-lowest n v g None = refl
+after-lowest n v g (Some w) = ap Some (above-lowest n v g w)
 
 pub after_none : (r : Option Groups) → r ≡ after 0 0 r
-after_none none = refl
-after_none (some w) = ap some (ap₂ grouped (omega arith) (omega arith))
+after_none None = refl
+after_none (Some w) = ap Some (ap₂ grouped (omega arith) (omega arith))
 
 -- the groups from a place of the file
 module _ (s : List ℕ) (i : ℕ) where
-  groups_none : length s ≤ i → groups (drop i s) ≡ none
+  groups_none : length s ≤ i → groups (drop i s) ≡ None
   unfolding groups
   groups_none h = ap groups (drop_of_length-le s h)
 
-  groups-end : i < length s → leb 128 (get_or s i 0) ≡ false → groups (drop i s) ≡ some (grouped (get_or s i 0) 1)
+  groups-end : i < length s → leb 128 (get_or s i 0) ≡ false → groups (drop i s) ≡ Some (grouped (get_or s i 0) 1)
   groups-end h e = ap groups (drop-cons s i 0 h) ∙ groups-last (get_or s i 0) (drop (suc i) s) (leb-false 128 (get_or s i 0) e)
 
-  groups-on : i < length s → leb 128 (get_or s i 0) ≡ true → groups (drop i s) ≡ map (lowest (get_or s i 0 % 128)) (groups (drop (i + 1) s))
+  groups-on : i < length s → leb 128 (get_or s i 0) ≡ true → groups (drop i s) ≡ option_map (lowest (get_or s i 0 % 128)) (groups (drop (i + 1) s))
   groups-on h e =
       ap groups (drop-cons s i 0 h)
       ∙ groups-more (get_or s i 0) (drop (suc i) s) (leb-true 128 (get_or s i 0) e)
-      ∙ ap (λ (k : ℕ). map (lowest (get_or s i 0 % 128)) (groups (drop k s))) (sym (add-one i))
+      ∙ ap (λ (k : ℕ). option_map (lowest (get_or s i 0 % 128)) (groups (drop k s))) (sym (add-one i))
 
 -- six groups or more are never a number in its shortest form
 too_many : (g : Groups) → 6 ≤ g.count → sound g ≡ false
@@ -97,8 +97,8 @@ too_many g h = go (leb g.value greatest) refl
     go false e = simp e
 
 too_long : (v at : ℕ) (r : Option Groups) → SomeGroup r → number_from (after 5 v r) at ≡ refused 2 at
-too_long v at none c = refl
-too_long v at (some w) c = ap (λ (t : Bool). checked_from t (above 5 v w) at) (too_many (above 5 v w) (omega arith))
+too_long v at None c = refl
+too_long v at (Some w) c = ap (λ (t : Bool). checked_from t (above 5 v w) at) (too_many (above 5 v w) (omega arith))
 
 -- what the code answers for groups is what the paper says of them
 pub answered : (v n at next : ℕ) → next ≡ at + n → meaning (answer v n next) at ≡ checked_from (sound (grouped v n)) (grouped v n) at
@@ -116,7 +116,7 @@ module _ (s : List ℕ) (at count value next : ℕ) (so_far : groups (drop at s)
   from-rest r e = ap (λ (q : Option Groups). number_from q at) (so_far ∙ ap (after count value) e)
 
   pub breaks-off : length s ≤ next → refused 2 at ≡ number s at
-  breaks-off h = sym (from-rest none (groups_none s next h))
+  breaks-off h = sym (from-rest None (groups_none s next h))
 
   pub ends : (v : ℕ) → v ≡ get_or s next 0 % 128 * 2 ^ (7 * count) + value → next ≡ at + count → next < length s → leb 128 (get_or s next 0) ≡ false → meaning (answer v (count + 1) (next + 1)) at ≡ number s at
   ends v e p h t =

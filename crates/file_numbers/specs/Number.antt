@@ -1,6 +1,6 @@
 -- Document 01, "The file": how a number is written. Over plain whole numbers, at no width.
 use Rattle.std.specs.Prelude.{ℕ, zero, suc, ◌+◌, ◌*◌, ◌/◌, ◌%◌, max, List, [], ◌∷◌, Bool, true, false, ◌&&◌, drop, leb, ltb, eqb, ℤ, pos, negsuc}
-use Rattle.std.proofs.Math.Option.{Option, none, some, map}
+use Rattle.std.specs.Prelude.{Option, None, Some, option_map}
 use Rattle.file_numbers.specs.Reading.{Got, got, refused, Reading}
 
 -- the groups of one number at the front of some bytes: what they stand for, and how many they are
@@ -14,10 +14,10 @@ lowest g rest = record { value = g + 128 * rest.value; count = suc rest.count }
 
 -- "seven bits to a byte .. the top bit is set on every byte but the last"; none where the bytes break off
 unfoldable pub groups : List ℕ → Option Groups
-groups [] = none
+groups [] = None
 groups (b ∷ bs) = elim (leb 128 b) [
-  | true ↦ map (lowest (b % 128)) (groups bs)
-  | false ↦ some (record { value = b; count = 1 })
+  | true ↦ option_map (lowest (b % 128)) (groups bs)
+  | false ↦ Some (record { value = b; count = 1 })
 ]
 
 -- the significant bits of v: none for 0, else one more than its half has (d bounds the depth)
@@ -47,8 +47,8 @@ checked_from false g at = refused 2 at
 
 -- 2. "A number breaks off, is not in shortest form, or exceeds the greatest (place: its first byte)."
 abbrev pub number_from : Option Groups → ℕ → Got ℕ
-number_from none at = refused 2 at
-number_from (some g) at = checked_from (sound g) g at
+number_from None at = refused 2 at
+number_from (Some g) at = checked_from (sound g) g at
 
 unfoldable pub number : Reading ℕ
 number s at = number_from (groups (drop at s)) at

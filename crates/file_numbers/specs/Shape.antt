@@ -4,7 +4,7 @@ use Rattle.std.specs.Prelude.{refl, List, [], ◌∷◌, ◌++◌, Bool, ◌&&�
 use Rattle.std.proofs.Common.{sym, ap, ap₂, ◌∙◌, arith, length-take, length-drop, leb-true, leb-false, ltb-true, ltb-false, eqb-true, le-leb, lt-ltb, le-ltb, eq-eqb}
 use Rattle.std.proofs.Math.Bool.{true, false}
 use Rattle.std.proofs.lemmas.Bool.{false≢true, lt-leb}
-use Rattle.std.proofs.Math.Option.{Option, none, some, map}
+use Rattle.std.specs.Prelude.{Option, None, Some, option_map}
 use Rattle.file_numbers.specs.Reading.{got}
 use Rattle.file_numbers.specs.Number.{byte_count, greatest, Groups, lowest, groups, sound, checked_from, number_from, number, shortest_in, shortest}
 use Rattle.file_numbers.specs.Bits.{byte_count_one, byte_count_more, byte_count_some}
@@ -14,15 +14,15 @@ grouped v n = record { value = v; count = n }
 
 -- what a byte and the groups after it make, by its top bit
 abbrev by_top : ℕ → Option Groups → Bool → Option Groups
-by_top b r t = elim t as (λ _. Option Groups) [ true ↦ map (lowest (b % 128)) r | false ↦ some (grouped b 1) ]
+by_top b r t = elim t as (λ _. Option Groups) [ true ↦ option_map (lowest (b % 128)) r | false ↦ Some (grouped b 1) ]
 
 -- a byte without the top bit ends the groups
-pub groups-last : (b : ℕ) (bs : List ℕ) → b < 128 → groups (b ∷ bs) ≡ some (grouped b 1)
+pub groups-last : (b : ℕ) (bs : List ℕ) → b < 128 → groups (b ∷ bs) ≡ Some (grouped b 1)
 unfolding groups
 groups-last b bs h = ap (by_top b (groups bs)) (lt-leb 128 b h)
 
 -- a byte with the top bit is the lowest group
-pub groups-more : (b : ℕ) (bs : List ℕ) → 128 ≤ b → groups (b ∷ bs) ≡ map (lowest (b % 128)) (groups bs)
+pub groups-more : (b : ℕ) (bs : List ℕ) → 128 ≤ b → groups (b ∷ bs) ≡ option_map (lowest (b % 128)) (groups bs)
 unfolding groups
 groups-more b bs h = ap (by_top b (groups bs)) (le-leb 128 b h)
 
@@ -84,20 +84,20 @@ shortest-length =
 -- the groups of the shortest form are the number, whatever follows
 module _ (rest : List ℕ) where
   abbrev AreRead : ℕ → Type 0
-  AreRead v = groups (shortest v ++ rest) ≡ some (grouped v (byte_count v))
+  AreRead v = groups (shortest v ++ rest) ≡ Some (grouped v (byte_count v))
 
   shortest-groups : (v : ℕ) → AreRead v
   shortest-groups = by_groups AreRead one more
     where
       one : (v : ℕ) → v < 128 → AreRead v
-      one v h = ap (λ (bs : List ℕ). groups (bs ++ rest)) (shortest-one v h) ∙ groups-last v rest h ∙ ap (λ (n : ℕ). some (grouped v n)) (sym (byte_count_one v h))
+      one v h = ap (λ (bs : List ℕ). groups (bs ++ rest)) (shortest-one v h) ∙ groups-last v rest h ∙ ap (λ (n : ℕ). Some (grouped v n)) (sym (byte_count_one v h))
 
       more : (v : ℕ) → 128 ≤ v → AreRead (v / 128) → AreRead v
       more v h ih =
           ap (λ (bs : List ℕ). groups (bs ++ rest)) (shortest-more v h)
           ∙ groups-more (128 + v % 128) (shortest (v / 128) ++ rest) (omega arith)
-          ∙ ap (map (lowest ((128 + v % 128) % 128))) ih
-          ∙ ap some (ap₂ grouped (omega arith) (sym (byte_count_more v h)))
+          ∙ ap (option_map (lowest ((128 + v % 128) % 128))) ih
+          ∙ ap Some (ap₂ grouped (omega arith) (sym (byte_count_more v h)))
 
 shortest-sound : (v : ℕ) → v ≤ greatest → sound (grouped v (byte_count v)) ≡ true
 unfolding sound
@@ -117,8 +117,8 @@ shortest-read before rest v h =
 
 -- groups are one or more
 abbrev pub SomeGroup : Option Groups → Type 0
-SomeGroup none = Unit
-SomeGroup (some g) = 1 ≤ g.count
+SomeGroup None = Unit
+SomeGroup (Some g) = 1 ≤ g.count
 
 pub some_group : (s : List ℕ) → SomeGroup (groups s)
 unfolding groups
@@ -126,8 +126,8 @@ some_group [] = tt
 some_group (b ∷ bs) = step (leb 128 b) (groups bs)
   where
     step : (t : Bool) (r : Option Groups) → SomeGroup (by_top b r t)
-    step true none = tt
-    step true (some g) = omega arith
+    step true None = tt
+    step true (Some g) = omega arith
     step false r = omega arith
 
 -- bytes are below 256, as the elements of a `&[u8]` are (past the end `get_or` gives 0)
@@ -136,10 +136,10 @@ Bytes s = (i : ℕ) → get_or s i 0 < 256
 
 -- as many bytes as a number's shortest form takes, which make the number, are its shortest form
 abbrev Exact : List ℕ → Option Groups → Type 0
-Exact s none = Unit
-Exact s (some g) = g.count ≡ byte_count g.value → take g.count s ≡ shortest g.value
+Exact s None = Unit
+Exact s (Some g) = g.count ≡ byte_count g.value → take g.count s ≡ shortest g.value
 
-exact_last : (b : ℕ) (bs : List ℕ) → b < 128 → Exact (b ∷ bs) (some (grouped b 1))
+exact_last : (b : ℕ) (bs : List ℕ) → b < 128 → Exact (b ∷ bs) (Some (grouped b 1))
 exact_last b bs h _ = sym (shortest-one b h)
 
 -- a number of two groups or more is 128 or more
@@ -150,7 +150,7 @@ two-groups v n h e = step (ltb v 128) refl
     step true q = absurd (omega (arith, byte_count_one v (ltb-true v 128 q)))
     step false q = ltb-false v 128 q
 
-exact_lowest : (b : ℕ) (bs : List ℕ) → 128 ≤ b → b < 256 → (g : Groups) → 1 ≤ g.count → Exact bs (some g) → Exact (b ∷ bs) (some (lowest (b % 128) g))
+exact_lowest : (b : ℕ) (bs : List ℕ) → 128 ≤ b → b < 256 → (g : Groups) → 1 ≤ g.count → Exact bs (Some g) → Exact (b ∷ bs) (Some (lowest (b % 128) g))
 exact_lowest b bs h l g c ih e =
     let v : ℕ = b % 128 + 128 * g.value in
     let big : 128 ≤ v = two-groups v g.count c e in
@@ -159,9 +159,9 @@ exact_lowest b bs h l g c ih e =
     let first : b ≡ 128 + v % 128 = omega arith in
     ap₂ (λ (x : ℕ) (xs : List ℕ). x ∷ xs) first (ih (omega arith) ∙ ap shortest (sym rest)) ∙ sym (shortest-more v big)
 
-exact_more : (b : ℕ) (bs : List ℕ) → 128 ≤ b → b < 256 → (r : Option Groups) → SomeGroup r → Exact bs r → Exact (b ∷ bs) (map (lowest (b % 128)) r)
-exact_more b bs h l none c ih = tt
-exact_more b bs h l (some g) c ih = exact_lowest b bs h l g c ih
+exact_more : (b : ℕ) (bs : List ℕ) → 128 ≤ b → b < 256 → (r : Option Groups) → SomeGroup r → Exact bs r → Exact (b ∷ bs) (option_map (lowest (b % 128)) r)
+exact_more b bs h l None c ih = tt
+exact_more b bs h l (Some g) c ih = exact_lowest b bs h l g c ih
 
 groups_exact : (s : List ℕ) → Bytes s → Exact s (groups s)
 unfolding groups
@@ -195,7 +195,7 @@ pub record Exactly (s : List ℕ) (at v next : ℕ) : Type 0 where
   pub bytes_are : take (byte_count v) (drop at s) ≡ shortest v
 
 module _ (s : List ℕ) (at : ℕ) where
-  sound_exactly : (g : Groups) → Exact (drop at s) (some g) → sound g ≡ true → Exactly s at g.value (at + g.count)
+  sound_exactly : (g : Groups) → Exact (drop at s) (Some g) → sound g ≡ true → Exactly s at g.value (at + g.count)
   sound_exactly g x t =
       let p = sound-parts g t in
       let bytes : take g.count (drop at s) ≡ shortest g.value = x p.1 in
@@ -214,10 +214,10 @@ module _ (s : List ℕ) (at : ℕ) where
   unfolding number
   read_exactly v next bytes read = from (groups (drop at s)) (groups_exact (drop at s) (λ i. get_d_drop s at i bytes)) read
     where
-      checked : (g : Groups) → Exact (drop at s) (some g) → (t : Bool) → sound g ≡ t → checked_from t g at ≡ got v next → Exactly s at v next
+      checked : (g : Groups) → Exact (drop at s) (Some g) → (t : Bool) → sound g ≡ t → checked_from t g at ≡ got v next → Exactly s at v next
       checked g x true q e = let same : g.value ≡ v = cc in let place : at + g.count ≡ next = cc in subst₂ (Exactly s at) same place (sound_exactly g x q)
       checked g x false q e = let z : ◌≡◌ {A = ℕ} 0 1 = cc in absurd (omega arith)
 
       from : (r : Option Groups) → Exact (drop at s) r → number_from r at ≡ got v next → Exactly s at v next
-      from none x e = let z : ◌≡◌ {A = ℕ} 0 1 = cc in absurd (omega arith)
-      from (some g) x e = checked g x (sound g) refl e
+      from None x e = let z : ◌≡◌ {A = ℕ} 0 1 = cc in absurd (omega arith)
+      from (Some g) x e = checked g x (sound g) refl e

@@ -4,7 +4,7 @@ use Rattle.std.proofs.Common.{sym, ◌∙◌, subst, arith, ltb-true, leb-false,
 use Prim.Native.Nat.{ℕ, zero, suc, ◌<◌}
 use mathlib.Core.List.{List, [], ◌∷◌}
 use Rattle.std.specs.Prelude.{true, false, ◌&&◌, get_or, leb, ltb, eqb}
-use Rattle.std.proofs.Math.Option.{Option, none, some}
+use Rattle.std.specs.Prelude.{Option, None, Some}
 use Rattle.std.proofs.Math.ListN.{length}
 use Rattle.road.specs.Base.{first_from, first_that}
 use Rattle.road.specs.File.{Road}
@@ -39,19 +39,19 @@ pub record Broken (rules : List Rule) (l : Limits) (r : Road) (n p : ℕ) : Type
   pub before : KeptBefore rules place l r
 
 module _ (l : Limits) (r : Road) where
-  pub none_keeps : (rule : Rule) → first_broken rule l r ≡ none → Keeps rule l r
+  pub none_keeps : (rule : Rule) → first_broken rule l r ≡ None → Keeps rule l r
   unfolding first_broken
   none_keeps rule e = first-none ((road_test rule).broken l r) ((road_test rule).places r) e
 
-  pub keeps_none : (rule : Rule) → Keeps rule l r → first_broken rule l r ≡ none
+  pub keeps_none : (rule : Rule) → Keeps rule l r → first_broken rule l r ≡ None
   unfolding first_broken
   keeps_none rule k = first-clear ((road_test rule).broken l r) ((road_test rule).places r) k
 
-  pub judge-next : (rule : Rule) (later : List Rule) → first_broken rule l r ≡ none → judge (rule ∷ later) l r ≡ judge later l r
+  pub judge-next : (rule : Rule) (later : List Rule) → first_broken rule l r ≡ None → judge (rule ∷ later) l r ≡ judge later l r
   unfolding judge
   judge-next rule later e = rw (e, judge)
 
-  pub judge-stop : (rule : Rule) (later : List Rule) {i : ℕ} → first_broken rule l r ≡ some i → judge (rule ∷ later) l r ≡ breaks (road_test rule).number i
+  pub judge-stop : (rule : Rule) (later : List Rule) {i : ℕ} → first_broken rule l r ≡ Some i → judge (rule ∷ later) l r ≡ breaks (road_test rule).number i
   unfolding judge
   judge-stop rule later e = rw (e, judge)
 
@@ -65,8 +65,8 @@ module _ (l : Limits) (r : Road) where
   passes_kept (rule ∷ later) e = go (first_broken rule l r) refl (λ f. passes_kept later f)
     where
       go : (o : Option ℕ) → first_broken rule l r ≡ o → (judge later l r ≡ passes → KeptBefore later (length later) l r) → KeptBefore (rule ∷ later) (suc (length later)) l r
-      go (some i) p ih = absurd (let h = judge-stop rule later p in let z : ◌≡◌ {A = ℕ} 0 1 = cc in omega arith)
-      go none p ih = kept_later rule later (length later) (none_keeps rule p) (ih (sym (judge-next rule later p) ∙ e))
+      go (Some i) p ih = absurd (let h = judge-stop rule later p in let z : ◌≡◌ {A = ℕ} 0 1 = cc in omega arith)
+      go None p ih = kept_later rule later (length later) (none_keeps rule p) (ih (sym (judge-next rule later p) ∙ e))
 
   pub kept-passes : (rules : List Rule) → KeptBefore rules (length rules) l r → judge rules l r ≡ passes
   unfolding judge
@@ -79,11 +79,11 @@ module _ (l : Limits) (r : Road) where
   judge-broken (rule ∷ later) n p e = go (first_broken rule l r) refl (λ f. judge-broken later n p f)
     where
       go : (o : Option ℕ) → first_broken rule l r ≡ o → (judge later l r ≡ breaks n p → Broken later l r n p) → Broken (rule ∷ later) l r n p
-      go (some k) q ih =
+      go (Some k) q ih =
           let h = judge-stop rule later q in
           let same : k ≡ p = cc in
-          record { place = 0; within = omega arith; number = cc; first = first_some ((road_test rule).broken l r) ((road_test rule).places r) p (q ∙ ap {B = Option ℕ} some same); before = λ j u. absurd (omega arith) }
-      go none q ih =
+          record { place = 0; within = omega arith; number = cc; first = first_some ((road_test rule).broken l r) ((road_test rule).places r) p (q ∙ ap {B = Option ℕ} Some same); before = λ j u. absurd (omega arith) }
+      go None q ih =
           let b = ih (sym (judge-next rule later q) ∙ e) in
           let w = b.within in
           record { place = suc b.place; within = omega arith; number = b.number; first = b.first; before = kept_later rule later b.place (none_keeps rule q) b.before }
@@ -101,7 +101,7 @@ module _ (l : Limits) (r : Road) where
 
 -- a rule's place: the first that has its number
 unfoldable pub place_of : Rule → ℕ
-place_of rule = elim (first_that (λ k. eqb (road_test (rule_at order k)).number (road_test rule).number) (length order)) [ some k ↦ k | none ↦ 0 ]
+place_of rule = elim (first_that (λ k. eqb (road_test (rule_at order k)).number (road_test rule).number) (length order)) [ Some k ↦ k | None ↦ 0 ]
 
 record InOrder (rule : Rule) : Type 0 where
   within : ltb (place_of rule) (length order) ≡ true
@@ -140,7 +140,7 @@ pub record Tried (rule : Rule) (l : Limits) (r : Road) : Type 0 where
 
 -- no place of the order that has the later rule's number stands at or before the earlier one's
 unfoldable pub Follows : (earlier later : Rule) → Type 0
-Follows earlier later = first_that (λ k. eqb (road_test (rule_at order k)).number (road_test later).number && leb k (place_of earlier)) (length order) ≡ none
+Follows earlier later = first_that (λ k. eqb (road_test (rule_at order k)).number (road_test later).number && leb k (place_of earlier)) (length order) ≡ None
 
 pub kept-earlier : (l : Limits) (r : Road) (earlier later : Rule) → Follows earlier later → Tried later l r → Keeps earlier l r
 unfolding Follows

@@ -3,7 +3,7 @@ use Rattle.std.specs.Prelude.{◌≡◌, ◌↔◌, Bool, not, ◌||◌, List, [
 use Rattle.std.proofs.Math.Path.{refl}
 use Rattle.std.proofs.Common.{sym, ap, ◌∙◌, subst, inl, inr, append_assoc, eqb-true, lt-ltb, le-ltb, take-append-drop, drop_of_length-le, drop-cons, take-take}
 use Rattle.std.proofs.Math.Bool.{true, false, or-false}
-use Rattle.std.proofs.Math.Option.{Option, none, some}
+use Rattle.std.specs.Prelude.{Option, None, Some}
 use Prim.Native.Nat.{ℕ, zero, suc, ◌+◌, ◌≤◌, ◌<◌}
 use Rattle.std.proofs.Math.Numerals.{add-one}
 use native.Mathlib.Omega.{arith}
@@ -61,25 +61,25 @@ may_end (suc _) before = eqb before 0
 
 -- the first place that it refuses
 unfoldable stop : (place earlier before : ℕ) → List ℕ → Option ℕ
-stop place earlier before [] = if may_end place before then none else some place
-stop place earlier before (k ∷ ks) = if may place earlier before k then stop (suc place) before k ks else some place
+stop place earlier before [] = if may_end place before then None else Some place
+stop place earlier before (k ∷ ks) = if may place earlier before k then stop (suc place) before k ks else Some place
 
-not_none : {k : ℕ} {o : Option ℕ} → o ≡ some k → o ≡ none → ⊥
+not_none : {k : ℕ} {o : Option ℕ} → o ≡ Some k → o ≡ None → ⊥
 not_none p q = let z : ◌≡◌ {A = ℕ} 0 1 = cc in omega arith
 
-passed : (m : Bool) (o : Option ℕ) (i : ℕ) → (if m then o else some i) ≡ none → (m ≡ true) × (o ≡ none)
+passed : (m : Bool) (o : Option ℕ) (i : ℕ) → (if m then o else Some i) ≡ None → (m ≡ true) × (o ≡ None)
 passed true o i h = (refl, h)
 passed false o i h = absurd (not_none refl h)
 
 -- ---- it passes each allowed order
 
-behind-passes : {ks : List ℕ} (later : List ℕ) → BehindArc ks → ((i : ℕ) → stop (suc i) 1 2 later ≡ none) → (i : ℕ) → stop (suc i) 2 1 (ks ++ later) ≡ none
+behind-passes : {ks : List ℕ} (later : List ℕ) → BehindArc ks → ((i : ℕ) → stop (suc i) 1 2 later ≡ None) → (i : ℕ) → stop (suc i) 2 1 (ks ++ later) ≡ None
 unfolding stop may_follow
 behind-passes later last h i = h (suc i)
 behind-passes later (reversing x) h i = behind-passes later x h (suc (suc (suc i)))
 behind-passes later (egg x) h i = behind-passes later x h (suc (suc i))
 
-allowed-passes : {ks : List ℕ} → AllowedOrder ks → (i a b : ℕ) → may i a b 0 ≡ true → stop i a b ks ≡ none
+allowed-passes : {ks : List ℕ} → AllowedOrder ks → (i a b : ℕ) → may i a b 0 ≡ true → stop i a b ks ≡ None
 unfolding stop may_follow
 allowed-passes straight i a b h = rw h
 allowed-passes (bend x later) i a b h = rw h (behind-passes _ x (λ i. allowed-passes later (suc i) 1 2 refl) (suc (suc i)))
@@ -87,11 +87,11 @@ allowed-passes (bend x later) i a b h = rw h (behind-passes _ x (λ i. allowed-p
 -- ---- an order that it passes is allowed
 
 -- the next kind may stand there, and it is each kind that it equals
-next : (i a b k : ℕ) (ks : List ℕ) (P : ℕ → Type 0) → stop i a b (k ∷ ks) ≡ none → (may i a b k ≡ true) × ((c : ℕ) → eqb k c ≡ true → (stop (suc i) b c ks ≡ none → P c) → P k)
+next : (i a b k : ℕ) (ks : List ℕ) (P : ℕ → Type 0) → stop i a b (k ∷ ks) ≡ None → (may i a b k ≡ true) × ((c : ℕ) → eqb k c ≡ true → (stop (suc i) b c ks ≡ None → P c) → P k)
 unfolding stop
 next i a b k ks P h =
     let q = passed (may i a b k) (stop (suc i) b k ks) i h in
-    (q.0, λ c e f. subst (λ (k : ℕ). stop (suc i) b k ks ≡ none → P k) (sym (eqb-true k c e)) f q.1)
+    (q.0, λ c e f. subst (λ (k : ℕ). stop (suc i) b k ks ≡ None → P k) (sym (eqb-true k c e)) f q.1)
 
 -- an arc, what may stand behind it, and an allowed order
 data Turn : List ℕ → Type 0 where
@@ -110,25 +110,25 @@ reversed (turn x later) = turn (reversing x) later
 mutual
   unfolding stop may_follow
 
-  from_zero : (ks : List ℕ) (i a : ℕ) → stop (suc i) a 0 ks ≡ none → AllowedOrder (0 ∷ ks)
+  from_zero : (ks : List ℕ) (i a : ℕ) → stop (suc i) a 0 ks ≡ None → AllowedOrder (0 ∷ ks)
   from_zero [] i a h = straight
   from_zero (k ∷ ks) i a h =
       let n = next (suc i) a 0 k ks (λ k. AllowedOrder (0 ∷ k ∷ ks)) h in
       n.1 2 n.0 (λ t. bent (from-entry ks (suc i) 0 refl t))
 
-  from-entry : (ks : List ℕ) (i a : ℕ) → eqb a 1 ≡ false → stop (suc i) a 2 ks ≡ none → Turn ks
+  from-entry : (ks : List ℕ) (i a : ℕ) → eqb a 1 ≡ false → stop (suc i) a 2 ks ≡ None → Turn ks
   from-entry [] i a o h = absurd (not_none refl h)
   from-entry (k ∷ ks) i a o h =
       let n = next (suc i) a 2 k ks (λ k. Turn (k ∷ ks)) h in
       n.1 1 (rw (o, or-false) at n.0) (λ t. from-arc ks (suc i) t)
 
-  from-arc : (ks : List ℕ) (i : ℕ) → stop (suc i) 2 1 ks ≡ none → Turn (1 ∷ ks)
+  from-arc : (ks : List ℕ) (i : ℕ) → stop (suc i) 2 1 ks ≡ None → Turn (1 ∷ ks)
   from-arc [] i h = absurd (not_none refl h)
   from-arc (k ∷ ks) i h =
       let n = next (suc i) 2 1 k ks (λ k. Turn (1 ∷ k ∷ ks)) h in
       n.1 2 n.0 (λ t. from_exit ks (suc i) t)
 
-  from_exit : (ks : List ℕ) (i : ℕ) → stop (suc i) 1 2 ks ≡ none → Turn (1 ∷ 2 ∷ ks)
+  from_exit : (ks : List ℕ) (i : ℕ) → stop (suc i) 1 2 ks ≡ None → Turn (1 ∷ 2 ∷ ks)
   from_exit [] i h = absurd (not_none refl h)
   from_exit (k ∷ ks) i h =
       let n = next (suc i) 1 2 k ks (λ k. Turn (1 ∷ 2 ∷ k ∷ ks)) h in
@@ -140,7 +140,7 @@ mutual
         ]
       ]
 
-passing_allowed : (ks : List ℕ) → stop 0 0 0 ks ≡ none → AllowedOrder ks
+passing_allowed : (ks : List ℕ) → stop 0 0 0 ks ≡ None → AllowedOrder ks
 unfolding stop
 passing_allowed [] h = absurd (not_none refl h)
 passing_allowed (k ∷ ks) h =
@@ -150,12 +150,12 @@ passing_allowed (k ∷ ks) h =
 -- ---- where it stops is the first wrong place
 
 -- whatever stood before, it passes some order
-finish : (i a b : ℕ) → Continues (λ ks. stop i a b ks ≡ none) []
+finish : (i a b : ℕ) → Continues (λ ks. stop i a b ks ≡ None) []
 unfolding stop may_follow
 finish zero a b = (0 ∷ [], refl)
 finish (suc i) a b = go (eqb b 2) refl
   where
-    go : (t : Bool) → eqb b 2 ≡ t → Continues (λ ks. stop (suc i) a b ks ≡ none) []
+    go : (t : Bool) → eqb b 2 ≡ t → Continues (λ ks. stop (suc i) a b ks ≡ None) []
     go true e = (1 ∷ 2 ∷ 0 ∷ [], rw e)
     go false e = (2 ∷ 1 ∷ 2 ∷ 0 ∷ [], rw e)
 
@@ -165,22 +165,22 @@ WrongFrom Allowed ks i p = (j : ℕ) × (p ≡ i + j) × FirstWrong Allowed ks j
 
 -- it passes exactly the allowed orders
 abbrev Passes : (i a b : ℕ) → (Allowed : List ℕ → Type 0) → Type 0
-Passes i a b Allowed = (ks : List ℕ) → (stop i a b ks ≡ none) ↔ Allowed ks
+Passes i a b Allowed = (ks : List ℕ) → (stop i a b ks ≡ None) ↔ Allowed ks
 
-at_once : (ks : List ℕ) (i a b : ℕ) {Allowed : List ℕ → Type 0} → Passes i a b Allowed → {p : ℕ} → some i ≡ some p → (0 < length ks → Continues Allowed (take 1 ks) → ⊥) → (0 ≡ length ks → Allowed ks → ⊥) → WrongFrom Allowed ks i p
+at_once : (ks : List ℕ) (i a b : ℕ) {Allowed : List ℕ → Type 0} → Passes i a b Allowed → {p : ℕ} → Some i ≡ Some p → (0 < length ks → Continues Allowed (take 1 ks) → ⊥) → (0 ≡ length ks → Allowed ks → ⊥) → WrongFrom Allowed ks i p
 at_once ks i a b same {p} g wrong short =
     let c = finish i a b in
     (0, let e : i ≡ p = cc in omega arith, record { within = omega arith; before = (c.0, (same c.0).0 c.1); is_wrong_kind = wrong; stops_short = short })
 
-first : (ks : List ℕ) (i a b : ℕ) (Allowed : List ℕ → Type 0) → Passes i a b Allowed → {p : ℕ} → stop i a b ks ≡ some p → WrongFrom Allowed ks i p
+first : (ks : List ℕ) (i a b : ℕ) (Allowed : List ℕ → Type 0) → Passes i a b Allowed → {p : ℕ} → stop i a b ks ≡ Some p → WrongFrom Allowed ks i p
 unfolding stop
 first [] i a b Allowed same {p} h =
-    elim (may_end i b) as (λ m. (if m then none else some i) ≡ some p → WrongFrom Allowed [] i p) [
+    elim (may_end i b) as (λ m. (if m then None else Some i) ≡ Some p → WrongFrom Allowed [] i p) [
       | true ↦ λ g. absurd (not_none g refl)
       | false ↦ λ g. at_once [] i a b same g (λ l. absurd (omega arith)) (λ e x. not_none h ((same []).1 x))
     ] h
 first (k ∷ ks) i a b Allowed same {p} h =
-    elim (may i a b k) as (λ m. may i a b k ≡ m → (if m then stop (suc i) b k ks else some i) ≡ some p → WrongFrom Allowed (k ∷ ks) i p) [
+    elim (may i a b k) as (λ m. may i a b k ≡ m → (if m then stop (suc i) b k ks else Some i) ≡ Some p → WrongFrom Allowed (k ∷ ks) i p) [
       | true ↦ λ e g.
           let f = first ks (suc i) b k (λ xs. Allowed (k ∷ xs)) (λ xs. rw e at (same (k ∷ xs))) g in
           let d = f.1 in
@@ -189,16 +189,16 @@ first (k ∷ ks) i a b Allowed same {p} h =
       | false ↦ λ e g. at_once (k ∷ ks) i a b same g (λ l c. not_none {k = i} (rw e) ((same (k ∷ c.0)).1 c.1)) (λ q. absurd (omega arith))
     ] refl h
 
-stop_wrong : (ks : List ℕ) {p : ℕ} → stop 0 0 0 ks ≡ some p → FirstWrong AllowedOrder ks p
+stop_wrong : (ks : List ℕ) {p : ℕ} → stop 0 0 0 ks ≡ Some p → FirstWrong AllowedOrder ks p
 stop_wrong ks h =
     let f = first ks 0 0 0 AllowedOrder (λ xs. (passing_allowed xs, λ x. allowed-passes x 0 0 0 refl)) h in
     subst (λ (j : ℕ). FirstWrong AllowedOrder ks j) (let d = f.1 in omega arith) f.2
 
-wrong_stop : (ks : List ℕ) {p : ℕ} → FirstWrong AllowedOrder ks p → stop 0 0 0 ks ≡ some p
+wrong_stop : (ks : List ℕ) {p : ℕ} → FirstWrong AllowedOrder ks p → stop 0 0 0 ks ≡ Some p
 wrong_stop ks {p} f =
-    elim (stop 0 0 0 ks) as (λ o. stop 0 0 0 ks ≡ o → o ≡ some p) [
-      | none ↦ λ h. absurd (not_allowed f (passing_allowed ks h))
-      | some q ↦ λ h. ap {B = Option ℕ} some (one_place (stop_wrong ks h) f)
+    elim (stop 0 0 0 ks) as (λ o. stop 0 0 0 ks ≡ o → o ≡ Some p) [
+      | None ↦ λ h. absurd (not_allowed f (passing_allowed ks h))
+      | Some q ↦ λ h. ap {B = Option ℕ} Some (one_place (stop_wrong ks h) f)
     ] refl
 
 -- ---- on a road
@@ -218,7 +218,7 @@ module _ (l : Limits) (r : Road) where
   at_place zero = refl
   at_place (suc i) = rw (lt-ltb 0 (suc i) (omega arith))
 
-  found : (n i : ℕ) (m : Bool) {o : Option ℕ} → broken i ≡ not m → first_from broken n (suc i) ≡ o → first_from broken (suc n) i ≡ (if m then o else some i)
+  found : (n i : ℕ) (m : Bool) {o : Option ℕ} → broken i ≡ not m → first_from broken n (suc i) ≡ o → first_from broken (suc n) i ≡ (if m then o else Some i)
   unfolding first_from
   found n i true e f = rw (e, first_from) f
   found n i false e f = rw (e, first_from)
@@ -239,5 +239,5 @@ pub kinds_iff : (l : Limits) (r : Road) → Keeps (rule.Element element.Kinds) l
 kinds_iff l r = (λ k. passing_allowed _ (sym (broken-stop l r) ∙ keeps_none l r _ k), λ a. none_keeps l r _ (broken-stop l r ∙ allowed-passes a 0 0 0 refl))
 
 -- the place of refusal 7
-pub first_wrong_iff : (l : Limits) (r : Road) (place : ℕ) → (first_broken (rule.Element element.Kinds) l r ≡ some place) ↔ FirstWrong AllowedOrder (kinds_of r) place
+pub first_wrong_iff : (l : Limits) (r : Road) (place : ℕ) → (first_broken (rule.Element element.Kinds) l r ≡ Some place) ↔ FirstWrong AllowedOrder (kinds_of r) place
 first_wrong_iff l r place = rw broken-stop (stop_wrong (kinds_of r), wrong_stop (kinds_of r))

@@ -1,7 +1,7 @@
 -- Which files are turned away: a file is accepted if and only if it reads and no item breaks a rule; from 5 on the first rule of the order that some item breaks is named, with its first such item.
 use Rattle.std.specs.Prelude.{◌≡◌, refl, Bool, true, false, ◌&&◌, ◌||◌, ◌⊎◌, ◌↔◌, List, ℕ, zero, suc, ◌≤◌, length, drop, T, leb, ltb, eqb, ℤ, pos, negsuc, if◌then◌else◌}
 use Rattle.std.proofs.Common.{sym, ap, ◌∙◌, subst, inl, inr, arith, leb→le, eqb→eq}
-use Rattle.std.proofs.Math.Option.{Option, none, some}
+use Rattle.std.specs.Prelude.{Option, None, Some}
 use Rattle.file_numbers.specs.Reading.{Got, got, refused, and_then, Reading, ◌>>=◌, give, many}
 use Rattle.file_numbers.specs.Number.{Groups, groups, sound, checked_from, number_from, number, signed_of}
 use Rattle.road.specs.File.{Road, fitting, field, date, number_is, dated_fields, contract_fields, signed, between, in_size, radius, element, half, tangent, point, head_fields, plan_fields, profile_fields, crossfall_fields, fields, ended, read}
@@ -123,8 +123,8 @@ faulty_number = record { at_most = λ s at. go at (groups (drop at s)) }
     checked at g false = only 2 (omega arith) (omega arith)
 
     go : (at : ℕ) (o : Option Groups) → Refuses 2 3 (number_from o at)
-    go at none = only 2 (omega arith) (omega arith)
-    go at (some g) = checked at g (sound g)
+    go at None = only 2 (omega arith) (omega arith)
+    go at (Some g) = checked at g (sound g)
 
 faulty_fitting : {A : Type 0} (refusal : ℕ) → WithinOr 2 3 22 refusal → (fits : A → Bool) (a : A) (at : ℕ) (s : List ℕ) (next : ℕ) → Refuses 2 3 (fitting refusal fits a at s next)
 unfolding fitting

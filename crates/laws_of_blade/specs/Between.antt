@@ -2,7 +2,7 @@
 use Rattle.std.specs.Prelude.{◌≡◌, [], ◌∷◌, ℤ, ◌*ℤ◌}
 use Rattle.std.proofs.Math.Path.{refl}
 use Rattle.std.proofs.Common.{sym, ap₂, subst, subst₂, arith}
-use Rattle.std.proofs.Math.Option.{Option, none, some}
+use Rattle.std.specs.Prelude.{Option, None, Some}
 use Prim.Native.Nat.{ℕ, ◌+◌, ◌*◌, ◌-◌, ◌≤◌, ◌<◌}
 use Rattle.std.proofs.Math.IntN.{pos}
 use Rattle.integers.specs.Ring.{◌:+◌, ◌:-◌, ◌:*◌, #, ring, $}
@@ -60,7 +60,7 @@ module _ (k m : ℕ) (part : k ≤ m) (above : 0 < m) where
     unfolding edge_drop
     drop-value x l u = mul-value (pos (lane_width r) ÷ 1000000) (omega arith) (crossfall-between F d j x ((points-over F a (a + s + t) n end).on x l u))
 
-    on-straight : one_curve r a (a + s + t) ≡ none → size (B -ᶠ surface k m d r (a + s)) ≤ᶠ whole (pos 1) +ᶠ whole (pos 0)
+    on-straight : one_curve r a (a + s + t) ≡ None → size (B -ᶠ surface k m d r (a + s)) ≤ᶠ whole (pos 1) +ᶠ whole (pos 0)
     unfolding tangent_height start_height crossfall_by printed_surface
     on-straight free =
         let S = straight-over F a (a + s + t) n end free in
@@ -73,13 +73,13 @@ module _ (k m : ℕ) (part : k ≤ m) (above : 0 < m) where
         (chord_above_sum (λ x. (tangent_height r i x).num) (λ x. (drop_by k m d r j x).num) 1000000000000 c a s t (pos 0) (tangent_chord_above r i a s t) (drop_chord_above k m d r j a s t))
         (near-value (e a (omega arith) (omega arith))) (near-value (e (a + s + t) (omega arith) (omega arith))))
 
-    in_one_curve : (i : ℕ) → one_curve r a (a + s + t) ≡ some i → size (B -ᶠ surface k m d r (a + s)) ≤ᶠ whole (pos 1) +ᶠ sagitta r (a + s + t - a) (some i)
+    in_one_curve : (i : ℕ) → one_curve r a (a + s + t) ≡ Some i → size (B -ᶠ surface k m d r (a + s)) ≤ᶠ whole (pos 1) +ᶠ sagitta r (a + s + t - a) (Some i)
     unfolding curve_height tangent_height start_height crossfall_by printed_surface
     in_one_curve i w =
         let e : (x : ℕ) → a ≤ x → x ≤ a + s + t → SurfaceBy d r (curve_height r i x) j x = λ x l u. record { heights = height-curve F i x (one-curve r a (a + s + t) i w x l u); drops = drop-value x l u } in
         let c : ℕ = (drop_by k m d r j a).den in
         let pc : 0 < c = positive-mul _ m (drop-value a (omega arith) (omega arith)).other-defined above in
-        far-value B (whole (pos 1) +ᶠ sagitta r (a + s + t - a) (some i)) line-positive (other_way (surface-value (e (a + s) (omega arith) (omega arith))))
+        far-value B (whole (pos 1) +ᶠ sagitta r (a + s + t - a) (Some i)) line-positive (other_way (surface-value (e (a + s) (omega arith) (omega arith))))
         (curve-bound (1 * (1 * m)) a s t (omega arith) long (λ x. (curve_height r i x +ᶠ drop_by k m d r j x).num) P Q (half_length r i) c (grade_change r i) (one-curve r a (a + s + t) i w a (omega arith) (omega arith)).long pc
         (chord_above_sum (λ x. (curve_height r i x).num) (λ x. (drop_by k m d r j x).num) (1000000000000 * (4 * half_length r i * 1000000)) c a s t (grade_change r i *ℤ pos 1000000000000) (curve_chord_above r i a s t) (drop_chord_above k m d r j a s t))
         (near-value (e a (omega arith) (omega arith))) (near-value (e (a + s + t) (omega arith) (omega arith))))
@@ -89,8 +89,8 @@ module _ (k m : ℕ) (part : k ≤ m) (above : 0 < m) where
     steps = go (one_curve r a (a + s + t)) refl
       where
         go : (o : Option ℕ) → one_curve r a (a + s + t) ≡ o → size (B -ᶠ surface k m d r (a + s)) ≤ᶠ whole (pos 1) +ᶠ sagitta r (a + s + t - a) o
-        go none e = on-straight e
-        go (some i) e = in_one_curve i e
+        go None e = on-straight e
+        go (Some i) e = in_one_curve i e
 
   -- k / m of the way from the axis to an edge, the line between the printed heights is as close to the exact one as demand 3 says
   pub surface-between : {r : Road} → Facts r → (d : Side) (a b x : ℕ) → Neighbouring r a b → b ≤ total r → a ≤ x → x ≤ b

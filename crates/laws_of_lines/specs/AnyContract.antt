@@ -1,7 +1,7 @@
 -- The contract picks limits alone: under any other contract a road has the same listed stations and the same rows. Assumes nothing.
 use Rattle.std.specs.Prelude.{◌≡◌, pos, ◌+ℤ◌}
 use Rattle.std.proofs.Math.Path.{refl, ap₂}
-use Rattle.std.proofs.Math.Option.{Option, none, some}
+use Rattle.std.specs.Prelude.{Option, None, Some}
 use Prim.Native.Nat.{ℕ, zero, suc}
 use Rattle.integers.specs.Fraction.{Frac, ◌÷◌, ◌×ᶠ◌}
 use Rattle.integers.specs.Rounding.{rounded}
@@ -38,16 +38,16 @@ module _ (c : Contract) (r : Road) where
     same-height = go (curve_at r s)
       where
         go : (o : Option ℕ) → height_by (with_contract c r) s o ≡ height_by r s o
-        go (some i) = refl
-        go none = refl
+        go (Some i) = refl
+        go None = refl
 
     same-grade : grade (with_contract c r) s ≡ grade r s
     unfolding grade curve_at in_curve tangent_at tangent_start
     same-grade = go (curve_at r s)
       where
         go : (o : Option ℕ) → grade_by (with_contract c r) s o ≡ grade_by r s o
-        go (some i) = refl
-        go none = refl
+        go (Some i) = refl
+        go None = refl
 
     same-crossfall : (d : Side) → crossfall d (with_contract c r) s ≡ crossfall d r s
     unfolding crossfall crossfall_by point_at

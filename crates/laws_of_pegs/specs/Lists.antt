@@ -4,7 +4,7 @@ use Rattle.std.specs.Prelude.{◌≡◌, Bool, true, ◌||◌, ◌↔◌, List, 
 use Rattle.std.proofs.Math.Path.{sym, ap, ap₂}
 use Rattle.std.proofs.Common.{◌∙◌, subst, arith, le-leb, get_or-take, take_at}
 use Rattle.std.proofs.Math.Bool.{false}
-use Rattle.std.proofs.Math.Option.{none, some}
+use Rattle.std.specs.Prelude.{None, Some}
 use Rattle.std.proofs.Math.Dec.{leb, ltb}
 use Rattle.std.proofs.lemmas.List.{length-replicate, get_or-replicate, replicate-append-replicate}
 use Rattle.std.proofs.Math.Seq.{length-take-le}
@@ -14,11 +14,11 @@ use Rattle.peg_list.specs.Pegs.{peg_at, falls, is_bad, first_bad}
 use Rattle.peg_list.specs.Search.{Good, good, good_none}
 
 -- all are taken exactly where they are good
-pub taken_iff : (T : ℕ) (pegs : List ℕ) → (first_bad T pegs ≡ none) ↔ Good T pegs
+pub taken_iff : (T : ℕ) (pegs : List ℕ) → (first_bad T pegs ≡ None) ↔ Good T pegs
 taken_iff T pegs = (λ e. good T pegs e, λ g. good_none T pegs g)
 
 -- "its place being the first bad peg": it is bad, and none before it is
-pub bad_iff : (T : ℕ) (pegs : List ℕ) (i : ℕ) → (first_bad T pegs ≡ some i) ↔ FirstAt (is_bad T pegs) (length pegs) i
+pub bad_iff : (T : ℕ) (pegs : List ℕ) (i : ℕ) → (first_bad T pegs ≡ Some i) ↔ FirstAt (is_bad T pegs) (length pegs) i
 unfolding first_bad
 bad_iff T pegs i = (λ e. first_some (is_bad T pegs) (length pegs) i e, λ f. first_at_some (is_bad T pegs) (length pegs) i f)
 
@@ -37,7 +37,7 @@ module _ (T : ℕ) (pegs : List ℕ) (long : 2000 < length pegs) (g : Good T (ta
   alike zero h = ap (λ (s : ℕ). false || leb 2000 0 || ltb T s) (same 0 h)
   alike (suc i) h = ap₂ (λ (s t : ℕ). ltb s t || leb 2000 (suc i) || ltb T s) (same (suc i) h) (same i (omega arith))
 
-  pub one_too_many : first_bad T pegs ≡ some 2000
+  pub one_too_many : first_bad T pegs ≡ Some 2000
   unfolding first_bad
   one_too_many = (bad_iff T pegs 2000).1 (record {
     place = long;
@@ -59,5 +59,5 @@ equal_good T s n h m =
 first_ones : (n s : ℕ) → take n (replicate (n + 1) s) ≡ replicate n s
 first_ones n s = ap (take n) (sym (replicate-append-replicate n 1 s)) ∙ take_at (replicate n s) (replicate 1 s) n (length-replicate n s)
 
-pub equal_too_many : (T s : ℕ) → s ≤ T → first_bad T (replicate 2001 s) ≡ some 2000
+pub equal_too_many : (T s : ℕ) → s ≤ T → first_bad T (replicate 2001 s) ≡ Some 2000
 equal_too_many T s h = one_too_many T (replicate 2001 s) (omega (arith, length-replicate 2001 s)) (subst (Good T) (sym (first_ones 2000 s)) (equal_good T s 2000 h (omega arith)))

@@ -3,7 +3,7 @@ use Rattle.std.specs.Prelude.{◌≡◌, Bool, true, false, ℕ, suc, ◌*◌, �
 use Rattle.std.proofs.Math.Path.{refl, sym, ap, ap₂}
 use Rattle.std.proofs.Common.{◌∙◌, arith}
 use mathlib.Core.List.{List, [], ◌∷◌, ◌++◌}
-use Rattle.std.proofs.Math.Option.{Option, none, some}
+use Rattle.std.specs.Prelude.{Option, None, Some}
 use borrow.Author.Tests.{ltb-false, le-ltb}
 use Rattle.std.proofs.Math.ListN.{take}
 use Rattle.std.proofs.Math.Seq.{take-append_seam}
@@ -46,8 +46,8 @@ unfolding pegs_answer pegs_buffer
 answered f pegs b n e = go (accepted f) refl e
   where
     rows : (r : Road) (end : ℕ) → accepted f ≡ got r end → 96 * length pegs ≤ length b → (o : Option ℕ) → first_bad (total r) pegs ≡ o → rows_or24 r pegs o ≡ wrote n → Answered f pegs b n
-    rows r end w room (some i) q h = absurd (let z : ◌≡◌ {A = ℕ} 0 1 = cc in omega arith)
-    rows r end w room none q h =
+    rows r end w room (Some i) q h = absurd (let z : ◌≡◌ {A = ℕ} 0 1 = cc in omega arith)
+    rows r end w room None q h =
         let g = pegs-written r pegs b room q in
         record { road = r; end = end; was = w; room = room; pegs_good = good (total r) pegs q; length-is = cc; buffer-is = sym (pegs-accepted f pegs b r end w (g.answered, g.buffer)).1 }
 

@@ -1,7 +1,7 @@
 -- Every exact value of an accepted road has a denominator above 0.
 use Rattle.std.specs.Prelude.{◌≡◌, ℕ, ◌<◌, length}
 use Rattle.std.proofs.Math.Path.{refl}
-use Rattle.std.proofs.Math.Option.{Option, none, some}
+use Rattle.std.specs.Prelude.{Option, None, Some}
 use native.Mathlib.Omega.{arith}
 use Rattle.road.specs.Base.{sum_of}
 use Rattle.road.specs.File.{Road}
@@ -23,16 +23,16 @@ module _ {r : Road} (A : Accepted r) where
   height-positive s = go (curve_at r s) refl
     where
       go : (o : Option ℕ) → curve_at r s ≡ o → 0 < (height_by r s o).den
-      go (some i) e = curve-positive r i s (curve-at A s i e).long
-      go none e = tangent-positive r (tangent_at r s) s
+      go (Some i) e = curve-positive r i s (curve-at A s i e).long
+      go None e = tangent-positive r (tangent_at r s) s
 
   pub grade-positive : (s : ℕ) → 0 < (grade r s).den
   unfolding grade
   grade-positive s = go (curve_at r s) refl
     where
       go : (o : Option ℕ) → curve_at r s ≡ o → 0 < (grade_by r s o).den
-      go (some i) e = let l = (curve-at A s i e).long in omega arith
-      go none e = omega arith
+      go (Some i) e = let l = (curve-at A s i e).long in omega arith
+      go None e = omega arith
 
   pub drop-positive : (d : Side) (s : ℕ) → 0 < (edge_drop d r s).den
   unfolding edge_drop

@@ -1,7 +1,7 @@
 -- The exact grade at a station is that of any straight part or curve that has the station.
 use Rattle.std.specs.Prelude.{◌≡◌, refl, [], ◌∷◌, ℕ, suc, ◌+◌, ◌*◌, ◌≤◌, ℤ, pos, ◌+ℤ◌, ◌-ℤ◌, ◌*ℤ◌}
 use Rattle.std.proofs.Common.{sym, ap, arith}
-use Rattle.std.proofs.Math.Option.{some}
+use Rattle.std.specs.Prelude.{Some}
 use Rattle.integers.specs.Ring.{◌:+◌, ◌:-◌, ◌:*◌, #, ring, $}
 use Rattle.integers.specs.Fraction.{Frac, whole, ◌≈ᶠ◌}
 use Rattle.integers.specs.Values.{same-value}
@@ -16,7 +16,7 @@ abbrev pub tangent_grade : Road → ℕ → ℕ → Frac
 tangent_grade r i s = whole (tangent_of r i).grade
 
 abbrev pub curve_grade : Road → ℕ → ℕ → Frac
-curve_grade r i s = grade_by r s (some i)
+curve_grade r i s = grade_by r s (Some i)
 
 flat_start : (g c u : ℤ) (h : ℕ) → u ≡ pos 0 → (g *ℤ pos (2 * h) +ℤ (c *ℤ u) *ℤ pos 1) *ℤ pos 1 ≡ g *ℤ pos (1 * (2 * h))
 flat_start g c u h e = rw e (ring (g ∷ c ∷ pos h ∷ []) (($ 0 :* (# 2 :* $ 2) :+ ($ 1 :* # 0) :* # 1) :* # 1) ($ 0 :* (# 1 :* (# 2 :* $ 2))) tt)

@@ -1,7 +1,7 @@
 -- Document 01, "The blade over a whole run": which curve two rows lie in, and the value of the bound.
 use Rattle.std.specs.Prelude.{◌≡◌, refl, ◌↔◌, Bool, true, false, ◌&&◌, ℕ, ◌*◌, ◌-◌, ◌≤◌, ◌<◌, pos, nat_abs}
 use Rattle.std.proofs.Common.{sym, ap, ap₂, ◌∙◌, arith}
-use Rattle.std.proofs.Math.Option.{Option, none, some}
+use Rattle.std.specs.Prelude.{Option, None, Some}
 use Rattle.integers.specs.Bridge.{nat, ◌⊖◌, abs!, abs?}
 use Rattle.integers.specs.Fraction.{Frac, ◌÷◌, whole, ◌+ᶠ◌, ◌≈ᶠ◌}
 use Rattle.integers.specs.Values.{same-value, other_way}
@@ -75,7 +75,7 @@ test_no r a b i h free = go (test r a b i) refl
 -- ---- the curve that is named
 
 -- the first whose h is above 0 and from whose vertex both are at most h
-pub named_iff : (r : Road) (a b i : ℕ) → (one_curve r a b ≡ some i) ↔ ((0 < half_length r i) × Both r a b i × ((j : ℕ) → j < i → 0 < half_length r j → Both r a b j → ⊥))
+pub named_iff : (r : Road) (a b i : ℕ) → (one_curve r a b ≡ Some i) ↔ ((0 < half_length r i) × Both r a b i × ((j : ℕ) → j < i → 0 < half_length r j → Both r a b j → ⊥))
 unfolding one_curve
 named_iff r a b i = (
   λ e. let f = first_some (test r a b) (vertex_count r) i e in
@@ -87,7 +87,7 @@ named_iff r a b i = (
   }),
 )
 
-pub none_iff : (r : Road) (a b : ℕ) → (one_curve r a b ≡ none) ↔ ((i : ℕ) → 0 < half_length r i → Both r a b i → ⊥)
+pub none_iff : (r : Road) (a b : ℕ) → (one_curve r a b ≡ None) ↔ ((i : ℕ) → 0 < half_length r i → Both r a b i → ⊥)
 unfolding one_curve
 none_iff r a b = (
   λ e i l h. true_false (test r a b i) (test_yes l h) (first-none (test r a b) (vertex_count r) e i h.place),
@@ -104,10 +104,10 @@ one_alone {r} F a b i j l k p q =
     omega (arith, curves_apart F i j k q.place)
 
 -- "The rows lie in one vertical curve where both are at most h from its vertex": that curve is named
-pub one_curve_iff : {r : Road} → Facts r → (a b i : ℕ) → a < b → (one_curve r a b ≡ some i) ↔ Both r a b i
+pub one_curve_iff : {r : Road} → Facts r → (a b i : ℕ) → a < b → (one_curve r a b ≡ Some i) ↔ Both r a b i
 one_curve_iff {r} F a b i l = (λ e. ((named_iff r a b i).0 e).1, λ h. (named_iff r a b i).1 (long l h, h, λ j k p q. one_alone F a b j i l k q h))
 
-pub no_curve_iff : (r : Road) (a b : ℕ) → a < b → (one_curve r a b ≡ none) ↔ ((i : ℕ) → Both r a b i → ⊥)
+pub no_curve_iff : (r : Road) (a b : ℕ) → a < b → (one_curve r a b ≡ None) ↔ ((i : ℕ) → Both r a b i → ⊥)
 no_curve_iff r a b l = (λ e i h. (none_iff r a b).0 e i (long l h) h, λ free. (none_iff r a b).1 (λ i p h. free i h))
 
 -- ---- the bound
@@ -117,7 +117,7 @@ abbrev pub curve_bound : Road → (d i : ℕ) → Frac
 curve_bound r d i = whole (pos 1) +ᶠ pos (d * d * nat_abs (grade_change r i)) ÷ (8 * (2 * half_length r i) * 1000000)
 
 -- where a curve is named, and where none is
-pub named_bound : (r : Road) (a b i : ℕ) → one_curve r a b ≡ some i → bound r a b ≈ᶠ curve_bound r (b - a) i
+pub named_bound : (r : Road) (a b i : ℕ) → one_curve r a b ≡ Some i → bound r a b ≈ᶠ curve_bound r (b - a) i
 unfolding bound
 named_bound r a b i e =
     let l = ((named_iff r a b i).0 e).0 in
@@ -128,7 +128,7 @@ named_bound r a b i e =
     let m : 1 * 1000000 * (8 * (2 * h)) ≡ 8 * (2 * h) * 1000000 = omega arith in
     other_way (same-value (omega arith) (sym (ap (λ (o : Option ℕ). whole (pos 1) +ᶠ sagitta r d o) e ∙ ap₂ (λ (x y : ℕ). whole (pos 1) +ᶠ pos x ÷ y) n m)))
 
-pub unnamed_bound : (r : Road) (a b : ℕ) → one_curve r a b ≡ none → bound r a b ≡ whole (pos 1)
+pub unnamed_bound : (r : Road) (a b : ℕ) → one_curve r a b ≡ None → bound r a b ≡ whole (pos 1)
 unfolding bound
 unnamed_bound r a b e = ap (λ (o : Option ℕ). whole (pos 1) +ᶠ sagitta r (b - a) o) e
 

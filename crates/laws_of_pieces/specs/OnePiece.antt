@@ -1,7 +1,7 @@
 -- Between neighbouring stations the road is of one piece: one curve or one straight part, and one pair of crossfall points.
 use Rattle.std.specs.Prelude.{◌≡◌, refl, ◌&&◌}
 use Rattle.std.proofs.Common.{ap}
-use Rattle.std.proofs.Math.Option.{none, some}
+use Rattle.std.specs.Prelude.{None, Some}
 use mathlib.Core.List.{Memᴰ}
 use Prim.Native.Nat.{ℕ, zero, suc, ◌+◌, ◌-◌, ◌≤◌, ◌<◌}
 use native.Mathlib.Omega.{arith}
@@ -22,7 +22,7 @@ use Rattle.laws_of_stations.specs.Stations.{starts-listed, ends-listed, point-li
 use Rattle.laws_of_pieces.specs.Crossfalls.{BetweenPoints}
 
 -- both rows in curve i: so is every station between them
-pub one-curve : (r : Road) (a b i : ℕ) → one_curve r a b ≡ some i → (s : ℕ) → a ≤ s → s ≤ b → OnCurve r i s
+pub one-curve : (r : Road) (a b i : ℕ) → one_curve r a b ≡ Some i → (s : ℕ) → a ≤ s → s ≤ b → OnCurve r i s
 unfolding one_curve
 one-curve r a b i e s l u =
     let f = first_some (λ i. in_curve r a i && in_curve r b i) (vertex_count r) i e in
@@ -32,7 +32,7 @@ one-curve r a b i e s l u =
     let high = q.high in
     record { place = f.place; long = p.long; low = omega arith; high = omega arith }
 
-no_curve : (r : Road) (a b i : ℕ) → one_curve r a b ≡ none → OnCurve r i a → OnCurve r i b → ⊥
+no_curve : (r : Road) (a b i : ℕ) → one_curve r a b ≡ None → OnCurve r i a → OnCurve r i b → ⊥
 unfolding one_curve
 no_curve r a b i e p q =
     true_false (in_curve r a i && in_curve r b i) (and_both (in_curve r a i) (in_curve r b i) (in_curve_lem p) (in_curve_lem q)) (first-none (λ i. in_curve r a i && in_curve r b i) (vertex_count r) e i p.place)
@@ -68,7 +68,7 @@ module _ {r : Road} (F : Facts r) (a b : ℕ) (N : Neighbouring r a b) (end : b 
       record { index = point_at r a; on = λ s l u. record { place = omega arith; low = omega arith; high = omega arith } }
 
   -- ---- the straight part
-  module _ (free : one_curve r a b ≡ none) where
+  module _ (free : one_curve r a b ≡ None) where
     after-curve : (t : ℕ) → t < length r.tangents → tangent_start r t ≤ a → tangent_start r t + half_before_of r t ≤ a
     after-curve zero h l = omega arith
     after-curve (suc t) h l = go (dec_le (vertex r t + half_length r t) a)

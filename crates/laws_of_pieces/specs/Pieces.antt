@@ -2,7 +2,7 @@
 use Rattle.std.specs.Prelude.{◌≡◌, true, ◌&&◌, leb, ltb}
 use Rattle.std.proofs.Math.Path.{refl, subst}
 use Rattle.std.proofs.Common.{sym, ap, ltb-true, leb-true, lt-ltb, le-leb}
-use Rattle.std.proofs.Math.Option.{Option, none, some}
+use Rattle.std.specs.Prelude.{Option, None, Some}
 use Prim.Native.Nat.{ℕ, zero, suc, ◌+◌, ◌-◌, ◌≤◌, ◌<◌}
 use native.Mathlib.Omega.{arith}
 use Rattle.std.proofs.Math.Decide.{dec_lt, dec_le}
@@ -54,8 +54,8 @@ in_curve_lem {r} {s} {i} c =
 
 -- a value W of the profile, which is S i s on tangent i and C i s in curve i; tangents and curves have one value where they meet
 pub record Along (r : Road) (W : ℕ → Option ℕ → Frac) (S C : ℕ → ℕ → Frac) : Type 0 where
-  pub curved : (i s : ℕ) → W s (some i) ≡ C i s
-  pub straight : (s : ℕ) → W s none ≡ S (tangent_at r s) s
+  pub curved : (i s : ℕ) → W s (Some i) ≡ C i s
+  pub straight : (s : ℕ) → W s None ≡ S (tangent_at r s) s
   pub straight-positive : (i s : ℕ) → 0 < (S i s).den
   pub curve-positive : (i s : ℕ) → 0 < half_length r i → 0 < (C i s).den
   pub at-vertex : (i s : ℕ) → i < vertex_count r → half_length r i ≡ 0 → s ≡ vertex r i → S i s ≈ᶠ S (suc i) s
@@ -192,15 +192,15 @@ module _ {r : Road} (F : Facts r) where
     value-curve i s c = go (curve_at r s) refl
       where
         go : (o : Option ℕ) → curve_at r s ≡ o → W s o ≈ᶠ C i s
-        go (some k) e = let f = first_some (in_curve r s) (vertex_count r) k e in subst (λ (v : Frac). v ≈ᶠ C i s) (sym (A.curved k s)) (curve-curve k i s (on-curve r s k f.place f.bad) c)
-        go none e = absurd (true_false (in_curve r s i) (in_curve_lem c) (first-none (in_curve r s) (vertex_count r) e i c.place))
+        go (Some k) e = let f = first_some (in_curve r s) (vertex_count r) k e in subst (λ (v : Frac). v ≈ᶠ C i s) (sym (A.curved k s)) (curve-curve k i s (on-curve r s k f.place f.bad) c)
+        go None e = absurd (true_false (in_curve r s i) (in_curve_lem c) (first-none (in_curve r s) (vertex_count r) e i c.place))
 
     pub value-straight : (i s : ℕ) → s ≤ total r → OnStraight r i s → W s (curve_at r s) ≈ᶠ S i s
     unfolding curve_at
     value-straight i s h c = go (curve_at r s) refl
       where
         go : (o : Option ℕ) → curve_at r s ≡ o → W s o ≈ᶠ S i s
-        go (some k) e = let f = first_some (in_curve r s) (vertex_count r) k e in subst (λ (v : Frac). v ≈ᶠ S i s) (sym (A.curved k s)) (curve-straight k i s (on-curve r s k f.place f.bad) c)
-        go none e =
+        go (Some k) e = let f = first_some (in_curve r s) (vertex_count r) k e in subst (λ (v : Frac). v ≈ᶠ S i s) (sym (A.curved k s)) (curve-straight k i s (on-curve r s k f.place f.bad) c)
+        go None e =
             subst (λ (v : Frac). v ≈ᶠ S i s) (sym (A.straight s))
             (straight-straight (tangent_at r s) i s (own s h (λ k d. true_false (in_curve r s k) (in_curve_lem d) (first-none (in_curve r s) (vertex_count r) e k d.place))) c)

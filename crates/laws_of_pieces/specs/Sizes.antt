@@ -2,7 +2,7 @@
 use Rattle.std.specs.Prelude.{◌≡◌, Bool, List, ◌∷◌, take, ℤ, negsuc, ◌+ℤ◌, ◌-ℤ◌, ◌*ℤ◌, if◌then◌else◌}
 use Rattle.std.proofs.Math.Path.{refl}
 use Rattle.std.proofs.Math.Bool.{true, false}
-use Rattle.std.proofs.Math.Option.{Option, none, some}
+use Rattle.std.specs.Prelude.{Option, None, Some}
 use Prim.Native.Nat.{ℕ, zero, suc, ◌+◌, ◌*◌, ◌-◌, ◌≤◌, ◌<◌}
 use native.Mathlib.Omega.{arith}
 use Rattle.std.proofs.Math.Nat.{mul-le-mul_left}
@@ -76,7 +76,7 @@ module _ {r : Road} (A : Accepted r) where
   unfolding tangent_at
   tangent-at s = (begun (tangent_start r) (length r.tangents) s (facts A).tangents (omega (arith, start_first r))).below
 
-  pub curve-at : (s i : ℕ) → curve_at r s ≡ some i → OnCurve r i s
+  pub curve-at : (s i : ℕ) → curve_at r s ≡ Some i → OnCurve r i s
   unfolding curve_at
   curve-at s i e = let f = first_some (in_curve r s) (vertex_count r) i e in on-curve r s i f.place f.bad
 
@@ -85,15 +85,15 @@ module _ {r : Road} (A : Accepted r) where
   height-small s l = go (curve_at r s) refl
     where
       go : (o : Option ℕ) → curve_at r s ≡ o → 0 < (height_by r s o).den → nat_abs (height_by r s o).num ≤ 27240000 * (height_by r s o).den
-      go (some i) e q = curve-size i s (curve-at s i e) l
-      go none e q = let h = tangent-size (tangent_at r s) s (tangent-at s) l in omega arith
+      go (Some i) e q = curve-size i s (curve-at s i e) l
+      go None e q = let h = tangent-size (tangent_at r s) s (tangent-at s) l in omega arith
 
   pub grade-small : (s : ℕ) → Small (grade r s) 360000
   unfolding Small grade
   grade-small s = go (curve_at r s) refl
     where
       go : (o : Option ℕ) → curve_at r s ≡ o → 0 < (grade_by r s o).den → nat_abs (grade_by r s o).num ≤ 360000 * (grade_by r s o).den
-      go (some i) e q =
+      go (Some i) e q =
           let c = curve-at s i e in
           let p = c.place in
           let h = half_length r i in
@@ -101,7 +101,7 @@ module _ {r : Road} (A : Accepted r) where
           let b = abs_product (grade_change r i *ℤ past r i s) (pos 1) {l = 1} (abs_product (grade_change r i) (past r i s) (change-size i p) (past-size i s c)) (omega arith) in
           let z = abs_sum ((tangent_of r i).grade *ℤ pos (2 * h)) (grade_change r i *ℤ past r i s *ℤ pos 1) a b in
           omega arith
-      go none e q = let h = (tangent_in A (tangent_at r s) (tangent-at s)).grade in omega arith
+      go None e q = let h = (tangent_in A (tangent_at r s) (tangent-at s)).grade in omega arith
 
   -- ---- crossfall and edge_drop
   pub crossfall-small : (d : Side) (s : ℕ) → s ≤ total r → Small (crossfall d r s) 240000

@@ -2,7 +2,7 @@
 use Rattle.std.specs.Prelude.{◌≡◌, refl, Bool, true, false, not, ◌&&◌, ◌||◌, ◌⊎◌, ◌↔◌, [], ◌∷◌, length, T, ltb, leb, eqb, ℤ, nat_abs, neg_ℤ, ◌+ℤ◌, ◌-ℤ◌, ◌*ℤ◌, ◌<ℤ◌}
 use Rattle.std.proofs.Common.{sym, ap₂, ◌∙◌, subst, inl, inr, ltb-true, lt-ltb, leb-true, le-leb, eqb-true, eq-eqb, ne_eqb}
 use Rattle.std.proofs.Math.Path.{ap}
-use Rattle.std.proofs.Math.Option.{Option, none, some}
+use Rattle.std.specs.Prelude.{Option, None, Some}
 use Prim.Native.Nat.{ℕ, zero, suc, ◌+◌, ◌*◌, ◌-◌, ◌≤◌, ◌<◌, min, max}
 use native.Mathlib.Omega.{arith}
 use Rattle.std.proofs.Math.Decide.{dec_le}
@@ -65,9 +65,9 @@ changes-on r i = (there, λ h. rw (first-clear (λ j. meets_at r i j && changes_
     there : changes_on r i ≡ false → (j : ℕ) → j < length r.crossfalls - 1 → (meets_at r i j && changes_at r j) ≡ false
     there e = go (first_that (λ j. meets_at r i j && changes_at r j) (length r.crossfalls - 1)) refl e
       where
-        go : (o : Option ℕ) → first_that (λ j. meets_at r i j && changes_at r j) (length r.crossfalls - 1) ≡ o → elim o [ some j ↦ true | none ↦ false ] ≡ false → (j : ℕ) → j < length r.crossfalls - 1 → (meets_at r i j && changes_at r j) ≡ false
-        go (some k) p q = absurd (true_false true refl q)
-        go none p q = first-none (λ j. meets_at r i j && changes_at r j) (length r.crossfalls - 1) p
+        go : (o : Option ℕ) → first_that (λ j. meets_at r i j && changes_at r j) (length r.crossfalls - 1) ≡ o → elim o [ Some j ↦ true | None ↦ false ] ≡ false → (j : ℕ) → j < length r.crossfalls - 1 → (meets_at r i j && changes_at r j) ≡ false
+        go (Some k) p q = absurd (true_false true refl q)
+        go None p q = first-none (λ j. meets_at r i j && changes_at r j) (length r.crossfalls - 1) p
 
 -- a pair of points with one crossfall
 flat-pair : (c c' u : ℤ) (k : ℕ) → c ≡ c' → (c *ℤ pos k +ℤ ((c' -ℤ c) *ℤ u) *ℤ pos 1) *ℤ pos 1 ≡ c *ℤ pos (1 * k)

@@ -3,7 +3,7 @@ use Rattle.std.specs.Prelude.{◌≡◌, refl, Bool, true, false, ◌⊎◌, len
 use Rattle.std.proofs.Common.{sym, ap, ap₂, ◌∙◌, inl, inr, arith, leb-true, leb-false, le-leb, eqb-true}
 use mathlib.Core.List.Memᴰ
 use mathlib.Core.List.{[], List, ◌∷◌, ◌++◌, Memᴰ}
-use Rattle.std.proofs.Math.Option.{Option, some}
+use Rattle.std.specs.Prelude.{Option, Some}
 use Prim.Native.Nat.{ℕ, zero, suc, ◌≤◌, ◌<◌, min, compare, Ordering}
 use Rattle.std.proofs.lemmas.Bool.{lt-leb, eqb-false}
 use Rattle.std.proofs.Math.Dec.{is_le, compare_is_eq}
@@ -70,13 +70,13 @@ unfolding least_from
 less-kept s z k [] h empty = refl
 less-kept s z k (x ∷ xs) h (step l a) = go (leb s x) (less-kept s x (suc x) xs (omega arith) a) (less-kept s z (suc x) xs (omega arith) a)
   where
-    go : (b : Bool) → or_less x (least_from s xs) ≡ x → or_less z (least_from s xs) ≡ z → or_less z (if b then some (or_less x (least_from s xs)) else least_from s xs) ≡ z
+    go : (b : Bool) → or_less x (least_from s xs) ≡ x → or_less z (least_from s xs) ≡ z → or_less z (if b then Some (or_less x (least_from s xs)) else least_from s xs) ≡ z
     go true e f = ap (min z) e ∙ omega arith
     go false e f = f
 
-pub least-next : (s z : ℕ) (zs : List ℕ) → s ≤ z → Ascends (suc z) zs → least_from s (z ∷ zs) ≡ some z
+pub least-next : (s z : ℕ) (zs : List ℕ) → s ≤ z → Ascends (suc z) zs → least_from s (z ∷ zs) ≡ Some z
 unfolding least_from
-least-next s z zs h a = rw (le-leb s z h) (ap {B = Option ℕ} some (less-kept s z (suc z) zs (omega arith) a))
+least-next s z zs h a = rw (le-leb s z h) (ap {B = Option ℕ} Some (less-kept s z (suc z) zs (omega arith) a))
 
 -- ---- an ascending list is known by its members
 pub ascends_strictly : {s : ℕ} {l : List ℕ} → Ascends s l → (i : ℕ) → suc i < length l → get_or l i 0 < get_or l (suc i) 0

@@ -3,7 +3,7 @@ use Rattle.std.specs.Prelude.{◌≡◌, refl, Bool, true, false, List, [], ◌�
 use Rattle.std.proofs.Common.{sym, ap, ◌∙◌, subst, arith, eqb→eq}
 use Prim.Native.Nat.{ℕ, zero, suc, ◌+◌, ◌<◌, ◌≤◌, min, compare, Ordering}
 use Rattle.std.proofs.Math.Decide.{ℕ_discrete, dec_lt}
-use Rattle.std.proofs.Math.Option.{Option, none, some}
+use Rattle.std.specs.Prelude.{Option, None, Some}
 use Rattle.std.proofs.Math.Dec.{compare_is_eq}
 use Rattle.road.specs.Base.{first_from, first_that}
 use Rattle.road.specs.Listed.{insert, ascending, counted, or_less, least_from}
@@ -11,7 +11,7 @@ use Rattle.laws_of_lists.specs.Tests.{true_false}
 
 -- ---- the least number that passes a test
 
-first_from_yes : (test : ℕ → Bool) (n k : ℕ) → test k ≡ true → first_from test (suc n) k ≡ some k
+first_from_yes : (test : ℕ → Bool) (n k : ℕ) → test k ≡ true → first_from test (suc n) k ≡ Some k
 unfolding first_from
 first_from_yes test n k p = rw (p, first_from)
 
@@ -19,7 +19,7 @@ first_from_no : (test : ℕ → Bool) (n k : ℕ) → test k ≡ false → first
 unfolding first_from
 first_from_no test n k p = rw (p, first_from)
 
-some_not_none : {k : ℕ} {o : Option ℕ} → o ≡ some k → o ≡ none → ⊥
+some_not_none : {k : ℕ} {o : Option ℕ} → o ≡ Some k → o ≡ None → ⊥
 some_not_none p q = let z : ◌≡◌ {A = ℕ} 0 1 = cc in omega arith
 
 Clear : (ℕ → Bool) → ℕ → ℕ → Type 0
@@ -33,16 +33,16 @@ clear-more test k n p c i l u = go (ℕ_discrete i k)
     go (yes e) = ap test e ∙ p
     go (no ne) = c i (omega (arith, ne)) (omega arith)
 
-first_from-none : (test : ℕ → Bool) (n k : ℕ) → first_from test n k ≡ none → Clear test k n
+first_from-none : (test : ℕ → Bool) (n k : ℕ) → first_from test n k ≡ None → Clear test k n
 unfolding Clear
 first_from-none test zero k e = λ i l u. absurd (omega arith)
 first_from-none test (suc n) k e = go (test k) refl (λ f. first_from-none test n (suc k) f)
   where
-    go : (b : Bool) → test k ≡ b → (first_from test n (suc k) ≡ none → Clear test (suc k) n) → Clear test k (suc n)
+    go : (b : Bool) → test k ≡ b → (first_from test n (suc k) ≡ None → Clear test (suc k) n) → Clear test k (suc n)
     go true p ih = absurd (some_not_none (first_from_yes test n k p) e)
     go false p ih = clear-more test k n p (ih (sym (first_from_no test n k p) ∙ e))
 
-first_from-clear : (test : ℕ → Bool) (n k : ℕ) → Clear test k n → first_from test n k ≡ none
+first_from-clear : (test : ℕ → Bool) (n k : ℕ) → Clear test k n → first_from test n k ≡ None
 unfolding Clear first_from
 first_from-clear test zero k c = refl
 first_from-clear test (suc n) k c =
@@ -61,12 +61,12 @@ record From (test : ℕ → Bool) (n k i : ℕ) : Type 0 where
   bad : test i ≡ true
   before : (j : ℕ) → k ≤ j → j < i → test j ≡ false
 
-first_from_some : (test : ℕ → Bool) (n k i : ℕ) → first_from test n k ≡ some i → From test n k i
+first_from_some : (test : ℕ → Bool) (n k i : ℕ) → first_from test n k ≡ Some i → From test n k i
 unfolding first_from
 first_from_some test zero k i e = absurd (some_not_none e refl)
 first_from_some test (suc n) k i e = go (test k) refl (λ f. first_from_some test n (suc k) i f)
   where
-    go : (b : Bool) → test k ≡ b → (first_from test n (suc k) ≡ some i → From test n (suc k) i) → From test (suc n) k i
+    go : (b : Bool) → test k ≡ b → (first_from test n (suc k) ≡ Some i → From test n (suc k) i) → From test (suc n) k i
     go true p ih =
         let h = first_from_yes test n k p in
         let q : k ≡ i = cc in
@@ -81,28 +81,28 @@ first_from_some test (suc n) k i e = go (test k) refl (λ f. first_from_some tes
         at j l u (yes q) = ap test q ∙ p
         at j l u (no ne) = (ih (sym (first_from_no test n k p) ∙ e)).before j (omega (arith, ne)) u
 
-pub first_some : (test : ℕ → Bool) (n i : ℕ) → first_that test n ≡ some i → FirstAt test n i
+pub first_some : (test : ℕ → Bool) (n i : ℕ) → first_that test n ≡ Some i → FirstAt test n i
 unfolding first_that
 first_some test n i e =
     let f = first_from_some test n 0 i e in
     let high = f.high in
     record { place = omega arith; bad = f.bad; before = λ j u. f.before j (omega arith) u }
 
-pub first-none : (test : ℕ → Bool) (n : ℕ) → first_that test n ≡ none → (i : ℕ) → i < n → test i ≡ false
+pub first-none : (test : ℕ → Bool) (n : ℕ) → first_that test n ≡ None → (i : ℕ) → i < n → test i ≡ false
 unfolding first_that Clear
 first-none test n e i l = first_from-none test n 0 e i (omega arith) (omega arith)
 
-pub first-clear : (test : ℕ → Bool) (n : ℕ) → ((i : ℕ) → i < n → test i ≡ false) → first_that test n ≡ none
+pub first-clear : (test : ℕ → Bool) (n : ℕ) → ((i : ℕ) → i < n → test i ≡ false) → first_that test n ≡ None
 unfolding first_that Clear
 first-clear test n c = first_from-clear test n 0 (λ i l u. c i (omega arith))
 
 -- the first place that passes is the one that is found
-pub first_at_some : (test : ℕ → Bool) (n i : ℕ) → FirstAt test n i → first_that test n ≡ some i
+pub first_at_some : (test : ℕ → Bool) (n i : ℕ) → FirstAt test n i → first_that test n ≡ Some i
 first_at_some test n i f = go (first_that test n) refl
   where
-    go : (o : Option ℕ) → first_that test n ≡ o → o ≡ some i
-    go none e = absurd (true_false (test i) f.bad (first-none test n e i f.place))
-    go (some k) e = ap {B = Option ℕ} some (same (dec_lt i k) (dec_lt k i))
+    go : (o : Option ℕ) → first_that test n ≡ o → o ≡ Some i
+    go None e = absurd (true_false (test i) f.bad (first-none test n e i f.place))
+    go (Some k) e = ap {B = Option ℕ} Some (same (dec_lt i k) (dec_lt k i))
       where
         g : FirstAt test n k
         g = first_some test n k e
@@ -114,27 +114,27 @@ first_at_some test n i f = go (first_that test n) refl
 
 -- ---- the least listed station is that of the ascending list
 
-swap_less : (x y : ℕ) (o : Option ℕ) → some (or_less x (some (or_less y o))) ≡ some (or_less y (some (or_less x o)))
-swap_less x y none = ap {B = Option ℕ} some (let e : min x y ≡ min y x = omega arith in e)
-swap_less x y (some z) = ap {B = Option ℕ} some (let e : min x (min y z) ≡ min y (min x z) = omega arith in e)
+swap_less : (x y : ℕ) (o : Option ℕ) → Some (or_less x (Some (or_less y o))) ≡ Some (or_less y (Some (or_less x o)))
+swap_less x y None = ap {B = Option ℕ} Some (let e : min x y ≡ min y x = omega arith in e)
+swap_less x y (Some z) = ap {B = Option ℕ} Some (let e : min x (min y z) ≡ min y (min x z) = omega arith in e)
 
 pub counted_swap : (s x y : ℕ) (o : Option ℕ) → counted s x (counted s y o) ≡ counted s y (counted s x o)
 counted_swap s x y o = go (leb s x) (leb s y)
   where
-    go : (a b : Bool) → (if a then some (or_less x (if b then some (or_less y o) else o)) else (if b then some (or_less y o) else o)) ≡ (if b then some (or_less y (if a then some (or_less x o) else o)) else (if a then some (or_less x o) else o))
+    go : (a b : Bool) → (if a then Some (or_less x (if b then Some (or_less y o) else o)) else (if b then Some (or_less y o) else o)) ≡ (if b then Some (or_less y (if a then Some (or_less x o) else o)) else (if a then Some (or_less x o) else o))
     go true true = swap_less x y o
     go true false = refl
     go false true = refl
     go false false = refl
 
-same-less : (x : ℕ) (o : Option ℕ) → some (or_less x (some (or_less x o))) ≡ some (or_less x o)
-same-less x none = ap {B = Option ℕ} some (let e : min x x ≡ x = omega arith in e)
-same-less x (some z) = ap {B = Option ℕ} some (let e : min x (min x z) ≡ min x z = omega arith in e)
+same-less : (x : ℕ) (o : Option ℕ) → Some (or_less x (Some (or_less x o))) ≡ Some (or_less x o)
+same-less x None = ap {B = Option ℕ} Some (let e : min x x ≡ x = omega arith in e)
+same-less x (Some z) = ap {B = Option ℕ} Some (let e : min x (min x z) ≡ min x z = omega arith in e)
 
 counted_twice : (s x : ℕ) (o : Option ℕ) → counted s x (counted s x o) ≡ counted s x o
 counted_twice s x o = go (leb s x)
   where
-    go : (a : Bool) → (if a then some (or_less x (if a then some (or_less x o) else o)) else (if a then some (or_less x o) else o)) ≡ (if a then some (or_less x o) else o)
+    go : (a : Bool) → (if a then Some (or_less x (if a then Some (or_less x o) else o)) else (if a then Some (or_less x o) else o)) ≡ (if a then Some (or_less x o) else o)
     go true = same-less x o
     go false = refl
 

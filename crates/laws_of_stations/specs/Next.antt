@@ -3,7 +3,7 @@ use Rattle.std.specs.Prelude.{◌≡◌, refl, Bool, true, false, ◌⊎◌, leb
 use Rattle.std.proofs.Common.{◌∙◌, inl, inr, arith, leb-true, leb-false}
 use mathlib.Core.List.Memᴰ
 use mathlib.Core.List.{List, [], ◌∷◌, Memᴰ}
-use Rattle.std.proofs.Math.Option.{Option, none, some}
+use Rattle.std.specs.Prelude.{Option, None, Some}
 use Prim.Native.Nat.{ℕ, ◌≤◌, ◌<◌, min, compare, Ordering}
 use Rattle.std.proofs.Math.Decide.{dec_le}
 use Rattle.road.specs.File.{Road}
@@ -12,8 +12,8 @@ use Rattle.laws_of_search.specs.Ascends.{equal}
 
 -- o is the least of xs that is not below s
 pub data Least (s : ℕ) (xs : List ℕ) : Option ℕ → Type 0 where
-  least : {x : ℕ} → Memᴰ x xs → s ≤ x → ((y : ℕ) → Memᴰ y xs → s ≤ y → x ≤ y) → Least s xs (some x)
-  nothing : ((y : ℕ) → Memᴰ y xs → y < s) → Least s xs none
+  least : {x : ℕ} → Memᴰ x xs → s ≤ x → ((y : ℕ) → Memᴰ y xs → s ≤ y → x ≤ y) → Least s xs (Some x)
+  nothing : ((y : ℕ) → Memᴰ y xs → y < s) → Least s xs None
 
 module _ (s x : ℕ) (xs : List ℕ) where
   skipped : x < s → {o : Option ℕ} → Least s xs o → Least s (x ∷ xs) o
@@ -28,14 +28,14 @@ module _ (s x : ℕ) (xs : List ℕ) where
       over y (inl e) = omega arith
       over y (inr n) = k y n
 
-  taken : s ≤ x → {o : Option ℕ} → Least s xs o → Least s (x ∷ xs) (some (or_less x o))
+  taken : s ≤ x → {o : Option ℕ} → Least s xs o → Least s (x ∷ xs) (Some (or_less x o))
   taken h (least {x = z} m l k) = go (dec_le x z)
     where
       below : (w y : ℕ) → w ≤ x → w ≤ z → s ≤ y → (y ≡ x) ⊎ Memᴰ y xs → w ≤ y
       below w y a b u (inl e) = omega arith
       below w y a b u (inr n) = let q = k y n u in omega arith
 
-      go : Dec (x ≤ z) → Least s (x ∷ xs) (some (min x z))
+      go : Dec (x ≤ z) → Least s (x ∷ xs) (Some (min x z))
       go (yes q) = let e : min x z ≡ x = omega arith in rw e (least {x = x} (Memᴰ.head refl) h λ y n u. below x y (omega arith) q u (Memᴰ.cases_cons n))
       go (no q) = let e : min x z ≡ z = omega arith in rw e (least {x = z} (Memᴰ.tail m) l λ y n u. below z y (omega arith) (omega arith) u (Memᴰ.cases_cons n))
   taken h (nothing k) = least {x = x} (Memᴰ.head refl) h λ y n u. over y u (Memᴰ.cases_cons n)
@@ -49,7 +49,7 @@ unfolding least_from
 least-is s [] = nothing λ y n. absurd (Memᴰ.not-nil n)
 least-is s (x ∷ xs) = go (leb s x) refl (least-is s xs)
   where
-    go : (b : Bool) → leb s x ≡ b → Least s xs (least_from s xs) → Least s (x ∷ xs) (if b then some (or_less x (least_from s xs)) else least_from s xs)
+    go : (b : Bool) → leb s x ≡ b → Least s xs (least_from s xs) → Least s (x ∷ xs) (if b then Some (or_less x (least_from s xs)) else least_from s xs)
     go true e l = taken s x xs (leb-true s x e) l
     go false e l = skipped s x xs (leb-false s x e) l
 

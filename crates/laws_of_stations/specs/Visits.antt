@@ -3,7 +3,7 @@ use Rattle.std.specs.Prelude.{◌≡◌, length, take}
 use Rattle.std.proofs.Math.Path.{refl, sym, ap, ap₂}
 use Rattle.std.proofs.Common.{◌∙◌, arith, length-append, length-drop}
 use mathlib.Core.List.{List, [], ◌∷◌, ◌++◌, map, append_assoc}
-use Rattle.std.proofs.Math.Option.{none}
+use Rattle.std.specs.Prelude.{None}
 use Prim.Native.Nat.{ℕ, zero, suc, ◌+◌, ◌≤◌, ◌<◌}
 use borrow.Author.Tests.{le-ltb}
 use Rattle.std.proofs.Math.ListN as L
@@ -78,7 +78,7 @@ module _ (f : List ℕ) (r : Road) (end : ℕ) (e : accepted f ≡ got r end) wh
   unfolding rows rows_of trace step
   rows_more s z b calls l h = row_first z b calls l h
 
-  none_left : (s : ℕ) → least_from s [] ≡ none
+  none_left : (s : ℕ) → least_from s [] ≡ None
   unfolding least_from
   none_left s = refl
 

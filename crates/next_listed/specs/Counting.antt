@@ -2,7 +2,7 @@
 use Rattle.std.specs.Prelude.{◌≡◌, refl, List, [], ◌∷◌, map, length, get_or}
 use Rattle.std.proofs.Math.Path.{sym, ap, ap₂}
 use Rattle.std.proofs.Common.{◌∙◌, add-one, le-leb}
-use Rattle.std.proofs.Math.Option.{Option, none, some}
+use Rattle.std.specs.Prelude.{Option, None, Some}
 use Prim.Native.Nat.{ℕ, zero, suc, ◌+◌, ◌-◌, ◌≤◌, ◌<◌, min}
 use native.Mathlib.Omega.{arith}
 use Rattle.std.proofs.Math.Nat.{sub-zero}
@@ -17,13 +17,13 @@ use Rattle.next_listed.specs.Least.{least_with, least-append, least_move}
 pub not_counted : (s x : ℕ) (o : Option ℕ) → x < s → counted s x o ≡ o
 not_counted s x o h = rw (lt-leb s x h)
 
-pub counted-first : (s x : ℕ) → s ≤ x → counted s x none ≡ some x
+pub counted-first : (s x : ℕ) → s ≤ x → counted s x None ≡ Some x
 counted-first s x h = rw (le-leb s x h)
 
-pub counted-less : (s x y : ℕ) → s ≤ x → x ≤ y → counted s x (some y) ≡ some x
+pub counted-less : (s x y : ℕ) → s ≤ x → x ≤ y → counted s x (Some y) ≡ Some x
 counted-less s x y h l = let e : min x y ≡ x = omega arith in rw (le-leb s x h, e)
 
-pub counted-more : (s x y : ℕ) → s ≤ x → y ≤ x → counted s x (some y) ≡ some y
+pub counted-more : (s x y : ℕ) → s ≤ x → y ≤ x → counted s x (Some y) ≡ Some y
 counted-more s x y h l = let e : min x y ≡ y = omega arith in rw (le-leb s x h, e)
 
 -- ---- one item after another

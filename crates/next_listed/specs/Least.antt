@@ -1,7 +1,7 @@
 -- The least of some stations that is not below s, found one station after another.
 use Rattle.std.specs.Prelude.{◌≡◌, refl, List, [], ◌∷◌, ◌++◌, map, ℕ, ◌+◌, ◌-◌, eqb, if◌then◌else◌}
 use Rattle.std.proofs.Common.{ap, ◌∙◌}
-use Rattle.std.proofs.Math.Option.{Option, none, some}
+use Rattle.std.specs.Prelude.{Option, None, Some}
 use Rattle.road.specs.File.{Road}
 use Rattle.road.specs.Base.{joined, count_from}
 use Rattle.road.specs.Exact.{total, vertex_count}
@@ -13,15 +13,15 @@ use Rattle.next_listed.specs.declared.Least.TheVariants.{At, Nothing}
 
 -- what the code's answer stands for
 abbrev pub as_option : Least → Option ℕ
-as_option (At x) = some x
-as_option Nothing = none
+as_option (At x) = Some x
+as_option Nothing = None
 
 -- the least of xs and of what o was found among
 unfoldable pub least_with : ℕ → List ℕ → Option ℕ → Option ℕ
 least_with s [] o = o
 least_with s (x ∷ xs) o = counted s x (least_with s xs o)
 
-pub least-from : (s : ℕ) (xs : List ℕ) → least_from s xs ≡ least_with s xs none
+pub least-from : (s : ℕ) (xs : List ℕ) → least_from s xs ≡ least_with s xs None
 unfolding least_from least_with
 least-from s [] = refl
 least-from s (x ∷ xs) = ap (counted s x) (least-from s xs)
@@ -52,11 +52,11 @@ point_stations r = map (λ (p : Crossfall). p.station) r.crossfalls
 
 -- the least listed station, part by part
 pub next-parts : (r : Road) (s : ℕ)
-    → next_listed r s ≡ counted s 0 (counted s (total r) (least_with s (multiples r.head.step (total r)) (least_with s (element_ends r) (least_with s (all_curve_stations r) (least_with s (point_stations r) none)))))
+    → next_listed r s ≡ counted s 0 (counted s (total r) (least_with s (multiples r.head.step (total r)) (least_with s (element_ends r) (least_with s (all_curve_stations r) (least_with s (point_stations r) None)))))
 unfolding next_listed stations least_with
 next-parts r s =
     least-from s (stations r)
     ∙ ap (λ (o : Option ℕ). counted s 0 (counted s (total r) o))
-    (least-append s (multiples r.head.step (total r)) _ none
+    (least-append s (multiples r.head.step (total r)) _ None
     ∙ ap (least_with s (multiples r.head.step (total r)))
-    (least-append s (element_ends r) _ none ∙ ap (least_with s (element_ends r)) (least-append s (all_curve_stations r) (point_stations r) none)))
+    (least-append s (element_ends r) _ None ∙ ap (least_with s (element_ends r)) (least-append s (all_curve_stations r) (point_stations r) None)))

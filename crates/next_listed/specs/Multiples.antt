@@ -2,7 +2,7 @@
 use Rattle.std.specs.Prelude.{◌≡◌, map}
 use Rattle.std.proofs.Math.Path.{refl, ap}
 use Rattle.std.proofs.Common.{◌∙◌, div-add-mod', mod-lt, le-leb}
-use Rattle.std.proofs.Math.Option.{Option, none, some}
+use Rattle.std.specs.Prelude.{Option, None, Some}
 use Prim.Native.Nat.{ℕ, zero, suc, ◌+◌, ◌*◌, ◌-◌, ◌/◌, ◌≤◌, ◌<◌, min}
 use native.Mathlib.Omega.{arith}
 use Rattle.std.proofs.Math.Decide.{dec_lt, dec_le}
@@ -24,8 +24,8 @@ rounded-up-upto step s p = omega (arith, div-add-mod' (s + (step - 1)) step)
 
 -- a station beyond one that counts changes nothing
 absorbed : (s m x : ℕ) (o : Option ℕ) → s ≤ m → m ≤ x → counted s m (counted s x o) ≡ counted s m o
-absorbed s m x none h l = let e : min m x ≡ m = omega arith in rw (le-leb s m h, le-leb s x (omega arith), e)
-absorbed s m x (some y) h l = let e : min m (min x y) ≡ min m y = omega arith in rw (le-leb s m h, le-leb s x (omega arith), e)
+absorbed s m x None h l = let e : min m x ≡ m = omega arith in rw (le-leb s m h, le-leb s x (omega arith), e)
+absorbed s m x (Some y) h l = let e : min m (min x y) ≡ min m y = omega arith in rw (le-leb s m h, le-leb s x (omega arith), e)
 
 module _ (s step q : ℕ) (low : (k : ℕ) → k < q → k * step < s) (high : s ≤ q * step) where
   -- beyond the least

@@ -3,7 +3,7 @@
 #![tactic(auto)]
 
 ghost use Rattle.std.specs.Prelude.{◌≡◌, ℕ, ◌+◌, ◌<◌, ◌≤◌};
-ghost use Rattle.std.proofs.Math.Option.{none};
+ghost use Rattle.std.specs.Prelude.{None};
 ghost use Rattle.road.specs.Exact.{total};
 ghost use Rattle.road.specs.Held.{road_in, Counted};
 ghost use Rattle.road.specs.Listed.{counted, multiples, element_ends, next_listed};
@@ -34,7 +34,7 @@ fn with_station(s: u64, x: u64, least: Least) -> Least
 // The stations of all crossfall points.
 fn with_points(a: Alignment, s: u64) -> Least
     requires { Counted a }
-    ensures { as_option result ≡ least_with s (point_stations (road_in a)) none }
+    ensures { as_option result ≡ least_with s (point_stations (road_in a)) None }
 {
     let crossfalls = a.crossfalls;
     let mut least = Least::Nothing;

@@ -2,7 +2,7 @@
 use Rattle.std.specs.Prelude.{◌≡◌, List, ℕ, ◌*◌, ◌/◌, ◌%◌, ◌≤◌, ◌<◌, length}
 use Rattle.std.proofs.Math.Path.{sym}
 use Rattle.std.proofs.Common.{ap, ◌∙◌, arith, div-add-mod', mod-lt, lt-ltb, le-ltb}
-use Rattle.std.proofs.Math.Option.{none, some}
+use Rattle.std.specs.Prelude.{None, Some}
 use Rattle.file_numbers.specs.Reading.{got, refused}
 use Rattle.road.specs.File.{Road}
 use Rattle.road.specs.Exact.{total}
@@ -28,10 +28,10 @@ module _ (r : Road) (pegs b : List ℕ) where
 
   module _ (h : 96 * length pegs ≤ length b) where
     -- 24
-    pub pegs-bad : (i : ℕ) → first_bad (total r) pegs ≡ some i → PegsGive r pegs b (refusal 24 i) b
+    pub pegs-bad : (i : ℕ) → first_bad (total r) pegs ≡ Some i → PegsGive r pegs b (refusal 24 i) b
     pegs-bad i e = record { answered = rw (le-ltb (length b) (96 * length pegs) h, e); buffer = rw (le-ltb (length b) (96 * length pegs) h, e) }
 
-    pub pegs-written : first_bad (total r) pegs ≡ none → PegsGive r pegs b (wrote (length (lines r pegs))) (overwrite (lines r pegs) b)
+    pub pegs-written : first_bad (total r) pegs ≡ None → PegsGive r pegs b (wrote (length (lines r pegs))) (overwrite (lines r pegs) b)
     pegs-written e = record { answered = rw (le-ltb (length b) (96 * length pegs) h, e); buffer = rw (le-ltb (length b) (96 * length pegs) h, e) }
 
 module _ (f pegs b : List ℕ) where

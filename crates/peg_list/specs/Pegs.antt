@@ -1,6 +1,6 @@
 -- Document 02, A.5: the rows of a list of pegs.
 use Rattle.std.specs.Prelude.{ℕ, zero, suc, ◌*◌, Bool, false, ◌||◌, List, length, get_or, leb, ltb, if◌then◌else◌}
-use Rattle.std.proofs.Math.Option.{Option, none, some}
+use Rattle.std.specs.Prelude.{Option, None, Some}
 use Rattle.file_numbers.specs.Reading.{Got, got, refused}
 use Rattle.road.specs.Base.{first_that, joined}
 use Rattle.road.specs.File.{Road}
@@ -32,8 +32,8 @@ lines r pegs = joined (line r) pegs
 
 -- "refused with 24, its place being the first bad peg"; "Their total length is returned, 0 for no pegs."
 abbrev pub rows_or24 : Road → (pegs : List ℕ) → Option ℕ → Answer
-rows_or24 r pegs (some i) = refusal 24 i
-rows_or24 r pegs none = wrote (length (lines r pegs))
+rows_or24 r pegs (Some i) = refusal 24 i
+rows_or24 r pegs None = wrote (length (lines r pegs))
 
 -- "a buffer with less than 96 bytes for each peg is refused with 20 at place 0; then .."
 abbrev pub pegs_of : Road → (pegs : List ℕ) → (room : ℕ) → Answer
@@ -50,8 +50,8 @@ pegs_answer f pegs room = pegs_on pegs room (accepted f)
 
 -- "in a lent buffer, whose later bytes do not change"; a refusal leaves it untouched
 abbrev pub rows_over : Road → (pegs buffer : List ℕ) → Option ℕ → List ℕ
-rows_over r pegs b (some _) = b
-rows_over r pegs b none = overwrite (lines r pegs) b
+rows_over r pegs b (Some _) = b
+rows_over r pegs b None = overwrite (lines r pegs) b
 
 abbrev pub buffer_of : Road → (pegs buffer : List ℕ) → List ℕ
 buffer_of r pegs b = if ltb (length b) (96 * length pegs) then b else rows_over r pegs b (first_bad (total r) pegs)

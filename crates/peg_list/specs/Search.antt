@@ -3,7 +3,7 @@ use Prim.Native.Nat.{ℕ, zero, suc, ◌≤◌, ◌<◌}
 use Rattle.std.specs.Prelude.{◌≡◌, Bool, true, false, ◌||◌, List, length, ltb}
 use Rattle.std.proofs.Math.Path.{refl, sym}
 use Rattle.std.proofs.Common.{ap, ◌∙◌, arith}
-use Rattle.std.proofs.Math.Option.{Option, none, some}
+use Rattle.std.specs.Prelude.{Option, None, Some}
 use borrow.Author.Tests.{le-ltb, ltb-false, lt-leb, leb-true, leb-false}
 use Rattle.std.proofs.Math.Dec.{leb}
 use Rattle.laws_of_lists.specs.Tests.{or_left, or_right}
@@ -12,8 +12,8 @@ use Rattle.peg_list.specs.Pegs.{peg_at, falls, is_bad, first_bad}
 
 -- the place found; how many pegs there are where none is
 abbrev pub or_count : List ℕ → Option ℕ → ℕ
-or_count pegs (some i) = i
-or_count pegs none = length pegs
+or_count pegs (Some i) = i
+or_count pegs None = length pegs
 
 -- no more than 2,000, ascending, up to T
 pub record Good (T : ℕ) (pegs : List ℕ) : Type 0 where
@@ -35,23 +35,23 @@ module _ (T : ℕ) (pegs : List ℕ) where
   none-bad i e before = e ∙ sym (ap (or_count pegs) (first-clear (is_bad T pegs) (length pegs) (λ j h. before j (omega arith))))
 
   -- what the place says
-  pub bad-is : (i : ℕ) → i ≡ or_count pegs (first_bad T pegs) → i < length pegs → first_bad T pegs ≡ some i
+  pub bad-is : (i : ℕ) → i ≡ or_count pegs (first_bad T pegs) → i < length pegs → first_bad T pegs ≡ Some i
   bad-is i e h = go (first_bad T pegs) e
     where
-      go : (o : Option ℕ) → i ≡ or_count pegs o → o ≡ some i
-      go (some k) q = ap {B = Option ℕ} some (sym q)
-      go none q = absurd (omega arith)
+      go : (o : Option ℕ) → i ≡ or_count pegs o → o ≡ Some i
+      go (Some k) q = ap {B = Option ℕ} Some (sym q)
+      go None q = absurd (omega arith)
 
-  pub good_is : (i : ℕ) → i ≡ or_count pegs (first_bad T pegs) → length pegs ≤ i → first_bad T pegs ≡ none
+  pub good_is : (i : ℕ) → i ≡ or_count pegs (first_bad T pegs) → length pegs ≤ i → first_bad T pegs ≡ None
   unfolding first_bad
   good_is i e h = go (first_bad T pegs) refl e
     where
-      go : (o : Option ℕ) → first_bad T pegs ≡ o → i ≡ or_count pegs o → o ≡ none
-      go (some k) w q = absurd (omega (arith, (first_some (is_bad T pegs) (length pegs) k w).place))
-      go none w q = refl
+      go : (o : Option ℕ) → first_bad T pegs ≡ o → i ≡ or_count pegs o → o ≡ None
+      go (Some k) w q = absurd (omega (arith, (first_some (is_bad T pegs) (length pegs) k w).place))
+      go None w q = refl
 
   -- no peg lies below the one before it, is one too many, or lies beyond T
-  module _ (e : first_bad T pegs ≡ none) where
+  module _ (e : first_bad T pegs ≡ None) where
     not_bad : (i : ℕ) → i < length pegs → (falls pegs i || leb 2000 i || ltb T (peg_at pegs i)) ≡ false
     unfolding first_bad is_bad
     not_bad = first-none (is_bad T pegs) (length pegs) e
@@ -79,6 +79,6 @@ module _ (T : ℕ) (pegs : List ℕ) where
   good_there g zero h = rw (lt-leb 2000 0 (omega arith), le-ltb T (peg_at pegs 0) (g.within 0 h))
   good_there g (suc i) h = rw (le-ltb (peg_at pegs (suc i)) (peg_at pegs i) (g.rises i h), lt-leb 2000 (suc i) (omega (arith, g.few)), le-ltb T (peg_at pegs (suc i)) (g.within (suc i) h))
 
-  pub good_none : Good T pegs → first_bad T pegs ≡ none
+  pub good_none : Good T pegs → first_bad T pegs ≡ None
   unfolding first_bad
   good_none g = first-clear (is_bad T pegs) (length pegs) (good_there g)

@@ -1,11 +1,11 @@
 -- Choice, search and sums.
 use Rattle.std.specs.Prelude.{ℕ, zero, suc, ◌+◌, Bool, true, false, List, [], ◌∷◌, ◌++◌}
-use Rattle.std.proofs.Math.Option.{Option, none, some}
+use Rattle.std.specs.Prelude.{Option, None, Some}
 
 -- the least of i, .. , i + n - 1 that passes a test
 unfoldable pub first_from : (ℕ → Bool) → ℕ → ℕ → Option ℕ
-first_from test zero i = none
-first_from test (suc n) i = elim (test i) [ true ↦ some i | false ↦ first_from test n (suc i) ]
+first_from test zero i = None
+first_from test (suc n) i = elim (test i) [ true ↦ Some i | false ↦ first_from test n (suc i) ]
 
 -- the least number below n that passes a test
 unfoldable pub first_that : (ℕ → Bool) → ℕ → Option ℕ

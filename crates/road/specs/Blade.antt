@@ -1,7 +1,7 @@
 -- Document 01, "The blade over a whole run": the blade between two stations of a road, and its bound.
 use Rattle.std.specs.Prelude.{ℕ, ◌*◌, ◌-◌, ◌<◌, ◌&&◌, ℤ, pos, ◌-ℤ◌, ◌*ℤ◌}
 use mathlib.Core.List.{Memᴰ}
-use Rattle.std.proofs.Math.Option.{Option, none, some}
+use Rattle.std.specs.Prelude.{Option, None, Some}
 use Rattle.road.specs.Base.{first_that}
 use Rattle.integers.specs.Fraction.{Frac, ◌÷◌, whole, ◌+ᶠ◌, ◌×ᶠ◌, size}
 use Rattle.road.specs.File.{Road}
@@ -23,8 +23,8 @@ one_curve r a b = first_that (λ i. in_curve r a i && in_curve r b i) (vertex_co
 
 -- d² × |change of grade| / (8 × curve length); "its length is 2h, its change of grade (g2 − g1) / 10⁶"
 abbrev pub sagitta : Road → (d : ℕ) → Option ℕ → Frac
-sagitta r d none = whole (pos 0)
-sagitta r d (some i) = whole (pos (d * d)) ×ᶠ size (grade_change r i ÷ 1_000_000) ×ᶠ (pos 1 ÷ (8 * (2 * half_length r i)))
+sagitta r d None = whole (pos 0)
+sagitta r d (Some i) = whole (pos (d * d)) ×ᶠ size (grade_change r i ÷ 1_000_000) ×ᶠ (pos 1 ÷ (8 * (2 * half_length r i)))
 
 -- 1 mm, and the curve's share
 unfoldable pub bound : Road → (a b : ℕ) → Frac

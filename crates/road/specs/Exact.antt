@@ -1,6 +1,6 @@
 -- Document 01, "The exact road".
 use Rattle.std.specs.Prelude.{ℕ, zero, suc, ◌+◌, ◌*◌, ◌-◌, List, [], ◌∷◌, Bool, ◌&&◌, length, take, get_or, leb, ltb, eqb, ℤ, pos, ◌+ℤ◌, ◌-ℤ◌, ◌*ℤ◌, if◌then◌else◌}
-use Rattle.std.proofs.Math.Option.{Option, none, some}
+use Rattle.std.specs.Prelude.{Option, None, Some}
 use Rattle.road.specs.Base.{first_that, last_that, sum_of}
 use Rattle.integers.specs.Fraction.{Frac, ◌÷◌, whole, ◌over◌, ◌+ᶠ◌, ◌-ᶠ◌, ◌×ᶠ◌}
 use Rattle.road.specs.File.{Road}
@@ -117,16 +117,16 @@ unfoldable pub curve_height : Road → ℕ → ℕ → Frac
 curve_height r i s = tangent_height r i s +ᶠ (grade_change r i *ℤ (past r i s *ℤ past r i s)) ÷ (4 * half_length r i * 1_000_000)
 
 abbrev pub height_by : Road → ℕ → Option ℕ → Frac
-height_by r s (some i) = curve_height r i s
-height_by r s none = tangent_height r (tangent_at r s) s
+height_by r s (Some i) = curve_height r i s
+height_by r s None = tangent_height r (tangent_at r s) s
 
 unfoldable pub height : Road → ℕ → Frac
 height r s = height_by r s (curve_at r s)
 
 -- "the grade is g1 + (g2 − g1) × u / 2h"; on a tangent "the grade is its own"
 abbrev pub grade_by : Road → ℕ → Option ℕ → Frac
-grade_by r s (some i) = whole (tangent_of r i).grade +ᶠ (grade_change r i *ℤ past r i s) ÷ (2 * half_length r i)
-grade_by r s none = whole (tangent_of r (tangent_at r s)).grade
+grade_by r s (Some i) = whole (tangent_of r i).grade +ᶠ (grade_change r i *ℤ past r i s) ÷ (2 * half_length r i)
+grade_by r s None = whole (tangent_of r (tangent_at r s)).grade
 
 unfoldable pub grade : Road → ℕ → Frac
 grade r s = grade_by r s (curve_at r s)

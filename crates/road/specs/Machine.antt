@@ -1,6 +1,6 @@
 -- Document 01, the two routines, and "The blade over a whole run": the plain machine.
 use Rattle.std.specs.Prelude.{ℕ, List, [], ◌∷◌, ◌++◌, length, drop, ltb, if◌then◌else◌}
-use Rattle.std.proofs.Math.Option.{Option, none, some}
+use Rattle.std.specs.Prelude.{Option, None, Some}
 use Rattle.file_numbers.specs.Reading.{Got, got, refused}
 use Rattle.road.specs.File.{Road}
 use Rattle.road.specs.Exact.{total}
@@ -67,8 +67,8 @@ row_buffer f s b = buffer_on s b (accepted f)
 
 -- "After the file's refusals it answers the least listed station not below that one, or that there is none."
 abbrev pub station_or : Option ℕ → Answer
-station_or (some s) = station s
-station_or none = no_station
+station_or (Some s) = station s
+station_or None = no_station
 
 abbrev pub next_of : Road → (station : ℕ) → Answer
 next_of r s = station_or (next_listed r s)

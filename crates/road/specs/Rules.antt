@@ -1,6 +1,6 @@
 -- Document 01, "Numbers that turn a file away": 5 to 19, and request A.3's 23. Each rule is a test of its item with those beside it; a table for each list gives it its number, and the order places it.
 use Rattle.std.specs.Prelude.{ℕ, zero, suc, ◌+◌, ◌*◌, ◌-◌, List, [], ◌∷◌, reverse, Bool, true, false, not, ◌&&◌, ◌||◌, length, take, get_or, leb, ltb, eqb, ℤ, pos, nat_abs, ◌-ℤ◌, neg_ℤ, if◌then◌else◌}
-use Rattle.std.proofs.Math.Option.{Option, none, some}
+use Rattle.std.specs.Prelude.{Option, None, Some}
 use Rattle.std.proofs.Math.ListN as L
 use Rattle.std.specs.Int.Signed.{lt_z}
 use Rattle.file_numbers.specs.Reading.{Got, got, refused, and_then}
@@ -232,7 +232,7 @@ allowed l radius p = superelevated radius p || crowned l radius p
 
 -- "On an arc a crossfall changes": between a point and the next, on element i
 unfoldable pub changes_on : Road → ℕ → Bool
-changes_on r i = elim (first_that (λ j. changes_between (element_start r i) (element_start r (suc i)) (point_of r j) (point_of r (suc j))) (length r.crossfalls - 1)) [ some j ↦ true | none ↦ false ]
+changes_on r i = elim (first_that (λ j. changes_between (element_start r i) (element_start r (suc i)) (point_of r j) (point_of r (suc j))) (length r.crossfalls - 1)) [ Some j ↦ true | None ↦ false ]
 
 -- 19. "On an arc a crossfall changes, or it is neither left = −right with the inner side negative, nor −25,000 on both sides with radius, unsigned, at least R' (place: element)."
 unfoldable pub wrong_superelevation : Limits → Road → ℕ → Bool
@@ -363,7 +363,7 @@ pub data Verdict : Type 0 where
 -- "the lowest refusal wins, then the first item": the rules are in their order
 unfoldable pub judge : List Rule → Limits → Road → Verdict
 judge [] l r = passes
-judge (rule ∷ later) l r = elim (first_broken rule l r) [ some place ↦ breaks (road_test rule).number place | none ↦ judge later l r ]
+judge (rule ∷ later) l r = elim (first_broken rule l r) [ Some place ↦ breaks (road_test rule).number place | None ↦ judge later l r ]
 
 -- a road under the limits given; its own are `limits r`
 unfoldable pub judged : Limits → Road → Verdict

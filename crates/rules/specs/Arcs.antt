@@ -3,7 +3,7 @@ use Rattle.std.specs.Prelude.{◌≡◌, Bool, not, ◌&&◌, ◌⊎◌, leb}
 use Rattle.std.proofs.Math.Path.{refl, ap}
 use Rattle.std.proofs.Common.{◌∙◌, inl, inr, leb-true, le-leb, le-ltb}
 use Rattle.std.proofs.Math.Bool.{true, false}
-use Rattle.std.proofs.Math.Option.{Option, none, some}
+use Rattle.std.specs.Prelude.{Option, None, Some}
 use Prim.Native.Nat.{ℕ, zero, suc, ◌-◌, ◌<◌, ◌≤◌}
 use native.Mathlib.Omega.{arith}
 use Rattle.std.proofs.Math.Decide.{ℕ_discrete, dec_lt}
@@ -43,7 +43,7 @@ pub arc-test : (l : Limits) (r : Road) (i j : ℕ) {e : Element} {low high : ℕ
 arc-test l r i j a b c d f = rw (a, b, c, d, f)
 
 -- "On an arc a crossfall changes", by the first pair that shows it
-change_by : (l : Limits) (r : Road) (i : ℕ) (o : Option ℕ) → first_that (λ k. changes_at l r i k) (length r.crossfalls - 1) ≡ o → changes_on r i ≡ (elim o [ some j ↦ true | none ↦ false ])
+change_by : (l : Limits) (r : Road) (i : ℕ) (o : Option ℕ) → first_that (λ k. changes_at l r i k) (length r.crossfalls - 1) ≡ o → changes_on r i ≡ (elim o [ Some j ↦ true | None ↦ false ])
 unfolding changes_on
 change_by l r i o p = rw (p, changes_on)
 
@@ -136,7 +136,7 @@ module _ (l : Limits) (r : Road) (points : PointOrder r) where
       where
         go : (b : Bool) → is_arc (element_of r i) ≡ b → wrong_superelevation l r i ≡ false
         go false a = rw a
-        go true a = rw (a, change_by l r i none (first-clear _ _ (no_change a)), right_there a)
+        go true a = rw (a, change_by l r i None (first-clear _ _ (no_change a)), right_there a)
 
     pub next-element : Merged l r (suc i) j
     next-element =
@@ -189,8 +189,8 @@ module _ (l : Limits) (r : Road) (points : PointOrder r) where
   changed i j h e = go (first_that (λ k. changes_at l r i k) (length r.crossfalls - 1)) refl
     where
       go : (o : Option ℕ) → first_that (λ k. changes_at l r i k) (length r.crossfalls - 1) ≡ o → changes_on r i ≡ true
-      go (some k) p = change_by l r i (some k) p
-      go none p = absurd (true_false _ e (first-none _ _ p j h))
+      go (Some k) p = change_by l r i (Some k) p
+      go None p = absurd (true_false _ e (first-none _ _ p j h))
 
   pub fails : {i j : ℕ} → Merged l r i j → pair_test l r i j ≡ true → wrong_superelevation l r i ≡ true
   unfolding wrong_superelevation shown_by allowed

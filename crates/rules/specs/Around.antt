@@ -3,7 +3,7 @@
 use Rattle.std.specs.Prelude.{◌≡◌, refl, Bool, true, false, ℕ, suc, ◌+◌, ◌<◌, ◌≤◌, length}
 use Rattle.std.proofs.Common.{sym, ◌∙◌, arith, add-one}
 use Rattle.std.proofs.Math.Path.{ap}
-use Rattle.std.proofs.Math.Option.{none, some}
+use Rattle.std.specs.Prelude.{None, Some}
 use Rattle.road.specs.Base.{first_that, sum_of}
 use Rattle.road.specs.File.{Road}
 use Rattle.road.specs.Limits.{Limits}
@@ -27,12 +27,12 @@ pub record Looking {A : Type 0} (x : Rule) (l : Limits) (r : Road) (before : ℕ
   pub passed : Passed ((road_test x).broken l r) places i
 
 module _ {A : Type 0} {x : Rule} {l : Limits} {r : Road} {before : ℕ → A} {most n places i : ℕ} {back : A} (k : Looking x l r before most n places i back) where
-  pub looking-nothing : places ≤ i → none ≡ first_broken x l r
+  pub looking-nothing : places ≤ i → None ≡ first_broken x l r
   unfolding first_broken
   looking-nothing h = nothing k.passed h ∙ ap (first_that ((road_test x).broken l r)) k.all
 
   module _ {b : Bool} (inside : i < places) (tested : b ≡ (road_test x).broken l r i) where
-    pub looking_found : b ≡ true → some i ≡ first_broken x l r
+    pub looking_found : b ≡ true → Some i ≡ first_broken x l r
     unfolding first_broken
     looking_found t = found k.passed inside (sym tested ∙ t) ∙ ap (first_that ((road_test x).broken l r)) k.all
 
@@ -76,7 +76,7 @@ module _ {x : ElementRule} {l : Limits} {r : Road} {n places i sum : ℕ} {earli
   broken : b ≡ (element_test x).broken l (element_among r i)
   broken = tested ∙ ap (λ (y : ElementAmong). (element_test x).broken l y) (element-among r i counted (ends.is ∙ ap (element_start r) (add-one i)) a.second a.looking.behind a.here next)
 
-  pub around_found : b ≡ true → some i ≡ first_broken (rule.Element x) l r
+  pub around_found : b ≡ true → Some i ≡ first_broken (rule.Element x) l r
   around_found t = looking_found a.looking inside broken t
 
   pub around_on : b ≡ false → Around x l r n places (i + 1) (sum + e.length) before e after

@@ -1,6 +1,6 @@
 -- What the answers say.
 use Rattle.std.specs.Prelude.{ℕ}
-use Rattle.std.proofs.Math.Option.{Option, none, some}
+use Rattle.std.specs.Prelude.{Option, None, Some}
 use Rattle.road.specs.Rules.{Verdict, passes, breaks}
 use Rattle.rules.specs.declared.Found.{Found}
 use Rattle.rules.specs.declared.Found.TheVariants as found
@@ -9,8 +9,8 @@ use Rattle.rules.specs.declared.Verdict.TheVariants as told
 
 -- the place of the first item that breaks a rule, or that there is none
 abbrev pub as_option : Found → Option ℕ
-as_option (found.At i) = some i
-as_option found.Nothing = none
+as_option (found.At i) = Some i
+as_option found.Nothing = None
 
 -- the refusal's number and its place, or that the road passes
 abbrev pub as_verdict : Told → Verdict

@@ -1,7 +1,7 @@
 -- Refusal 19: elements and pairs of points passed together, wherever the items come from. The laws of the loop over element i and points j and j + 1.
 use Rattle.std.specs.Prelude.{◌≡◌, refl, Bool, true, false, ◌&&◌, ℕ, suc, ◌+◌, ◌<◌, ◌≤◌, length, leb, ltb}
 use Rattle.std.proofs.Common.{sym, ap, ◌∙◌, arith, add-one, ltb-true, leb-true, leb-false, lt-ltb}
-use Rattle.std.proofs.Math.Option.{none, some}
+use Rattle.std.specs.Prelude.{None, Some}
 use Rattle.road.specs.Base.{first_that, sum_of}
 use Rattle.road.specs.File.{Road}
 use Rattle.road.specs.Limits.{Limits}
@@ -41,7 +41,7 @@ module _ (l : Limits) (r : Road) (ascend : PointOrder r) where
     test : b ≡ pair_test l r i j
     test = tested ∙ arc-test l r i j here a.begin.is end_is a.near a.far
 
-    pub passing_found : b ≡ true → some i ≡ first_that (wrong_superelevation l r) (length r.plan)
+    pub passing_found : b ≡ true → Some i ≡ first_that (wrong_superelevation l r) (length r.plan)
     passing_found t = found a.clear inside (fails l r ascend a.merged (sym test ∙ t))
 
     station-is : q.station ≡ (point_of r (suc j)).station
@@ -86,5 +86,5 @@ module _ (l : Limits) (r : Road) (ascend : PointOrder r) where
             let same = station-is in
             omega arith
 
-pub passing_nothing : {l : Limits} {r : Road} {i j low : ℕ} {p q : Crossfall} → Passing l r i j low p q → length r.plan ≤ i → none ≡ first_that (wrong_superelevation l r) (length r.plan)
+pub passing_nothing : {l : Limits} {r : Road} {i j low : ℕ} {p q : Crossfall} → Passing l r i j low p q → length r.plan ≤ i → None ≡ first_that (wrong_superelevation l r) (length r.plan)
 passing_nothing a h = nothing a.clear h

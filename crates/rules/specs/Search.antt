@@ -2,7 +2,7 @@
 use Rattle.std.specs.Prelude.{◌≡◌, Bool, true, false, ℕ, suc, ◌+◌, ◌-◌, ◌<◌, ◌≤◌}
 use Rattle.std.proofs.Math.Path.{sym}
 use Rattle.std.proofs.Common.{◌∙◌}
-use Rattle.std.proofs.Math.Option.{none, some}
+use Rattle.std.specs.Prelude.{None, Some}
 use native.Mathlib.Omega.{arith}
 use Rattle.std.proofs.Math.Numerals.{add-one}
 use Rattle.road.specs.Base.{first_from, first_that}
@@ -20,11 +20,11 @@ module _ {bad : ℕ → Bool} {n : ℕ} where
   unfolding first_that
   start = let e : n - 0 ≡ n = omega arith in record { within = omega arith; same = rw e }
 
-  pub found : {i : ℕ} → Passed bad n i → i < n → bad i ≡ true → some i ≡ first_that bad n
+  pub found : {i : ℕ} → Passed bad n i → i < n → bad i ≡ true → Some i ≡ first_that bad n
   unfolding first_from
   found {i} p h b = sym goes ∙ p.same
     where
-      goes : first_from bad (n - i) i ≡ some i
+      goes : first_from bad (n - i) i ≡ Some i
       goes = rw (one_left n i h) (rw (b, first_from))
 
   pub on : {i : ℕ} → Passed bad n i → i < n → bad i ≡ false → Passed bad n (i + 1)
@@ -34,18 +34,18 @@ module _ {bad : ℕ → Bool} {n : ℕ} where
       goes : first_from bad (n - (i + 1)) (i + 1) ≡ first_from bad (n - i) i
       goes = sym (rw (one_left n i h) (rw (b, first_from, add-one i)))
 
-  pub nothing : {i : ℕ} → Passed bad n i → n ≤ i → none ≡ first_that bad n
+  pub nothing : {i : ℕ} → Passed bad n i → n ≤ i → None ≡ first_that bad n
   unfolding first_from
   nothing {i} p h = sym goes ∙ p.same
     where
-      goes : first_from bad (n - i) i ≡ none
+      goes : first_from bad (n - i) i ≡ None
       goes = let e : n - i ≡ 0 = omega arith in rw e
 
 -- a rule with one place
-pub nothing_1 : (bad : ℕ → Bool) → bad 0 ≡ false → none ≡ first_that bad 1
+pub nothing_1 : (bad : ℕ → Bool) → bad 0 ≡ false → None ≡ first_that bad 1
 unfolding first_that first_from
 nothing_1 bad h = sym (rw (h, first_from))
 
-pub found_1 : (bad : ℕ → Bool) → bad 0 ≡ true → some 0 ≡ first_that bad 1
+pub found_1 : (bad : ℕ → Bool) → bad 0 ≡ true → Some 0 ≡ first_that bad 1
 unfolding first_that first_from
 found_1 bad h = sym (rw (h, first_from))

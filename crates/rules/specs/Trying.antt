@@ -2,7 +2,7 @@
 use Rattle.std.specs.Prelude.{◌≡◌, List, ◌∷◌, ℕ, suc, ◌+◌, ◌<◌, ◌≤◌, drop}
 use Rattle.std.proofs.Math.Path.{refl, sym}
 use Rattle.std.proofs.Common.{ap, ◌∙◌, add-one, drop-cons}
-use Rattle.std.proofs.Math.Option.{none, some}
+use Rattle.std.specs.Prelude.{None, Some}
 use native.Mathlib.Omega.{arith}
 use Rattle.std.proofs.Math.Decide.{ℕ_discrete}
 use Rattle.std.proofs.Math.ListN.{length}
@@ -36,10 +36,10 @@ module _ {l : Limits} {r : Road} where
       from-here : drop k order ≡ rule_at order k ∷ drop (suc k) order
       from-here = drop-cons order k (rule.Element element.PlanLength) h
 
-      pub trying_stop : {p : ℕ} → first_broken (rule_at order k) l r ≡ some p → breaks (road_test (rule_at order k)).number p ≡ judged l r
+      pub trying_stop : {p : ℕ} → first_broken (rule_at order k) l r ≡ Some p → breaks (road_test (rule_at order k)).number p ≡ judged l r
       trying_stop e = sym (ap (λ (x : List Rule). judge x l r) from-here ∙ judge-stop l r (rule_at order k) (drop (suc k) order) e) ∙ t.rest
 
-      pub trying_on : first_broken (rule_at order k) l r ≡ none → Trying l r (k + 1)
+      pub trying_on : first_broken (rule_at order k) l r ≡ None → Trying l r (k + 1)
       trying_on e = record {
         within = omega arith;
         kept = λ j u. go j u (ℕ_discrete j k);

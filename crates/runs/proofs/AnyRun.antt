@@ -2,7 +2,7 @@
 use Rattle.std.specs.Prelude.{if◌then◌else◌}
 use mathlib.Core.Path.{◌≡◌, refl, ◌∙◌, subst}
 use mathlib.Core.Bool.{Bool, true, false}
-use mathlib.Core.Option.{Option}
+use Rattle.std.specs.Prelude.{Option}
 use mathlib.Core.List.{List, [], ◌∷◌}
 use Prim.Native.Nat.{ℕ, ◌≤◌}
 use lib.ListN.{length, replicate}
@@ -63,7 +63,7 @@ next_met m = cc
 
 -- any calls one after the other, each with the buffer as the last one left it, and each as its contract says
 pub data Ran (f : List ℕ) : List ℕ → List Call → List After → Type 0 where
-  none : {b : List ℕ} → Ran f b [] []
+  None : {b : List ℕ} → Ran f b [] []
   by_row : {b b' : List ℕ} {s : ℕ} {r : RowAnswer} {calls : List Call} {ts : List After}
       → RowMet f s b r b' → Ran f b' calls ts → Ran f b (row s ∷ calls) (record { answer = of_row r; buffer = b' } ∷ ts)
   by_next : {b : List ℕ} {s : ℕ} {r : NextAnswer} {calls : List Call} {ts : List After}
@@ -71,7 +71,7 @@ pub data Ran (f : List ℕ) : List ℕ → List Call → List After → Type 0 w
 
 pub any_run : {f b : List ℕ} {calls : List Call} {ts : List After} → Ran f b calls ts → ts ≡ trace f b calls
 unfolding step trace
-any_run none = refl
+any_run None = refl
 any_run (by_row m rest) = let e = row_met m in rw (any_run rest, e.0, e.1)
 any_run (by_next m rest) = rw (any_run rest, next_met m)
 
@@ -142,7 +142,7 @@ next-answer f s = by (accepted f)
 
 pub ran : (f b : List ℕ) (calls : List Call) → Ran f b calls (trace f b calls)
 unfolding step trace
-ran f b [] = none
+ran f b [] = None
 ran f b (row s ∷ calls) =
     let b' = row_buffer f s b in
     let a = row-answer f s (length b) in

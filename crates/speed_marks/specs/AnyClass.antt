@@ -1,7 +1,7 @@
 -- "with that speed's row in place of the class's": in any other class and terrain a road has the same marks. Assumes nothing.
 use Rattle.std.specs.Prelude.{◌≡◌, Bool, ℕ}
 use Rattle.std.proofs.Math.Path.{refl, ap, ap₂}
-use Rattle.std.proofs.Math.Option.{Option, none, some}
+use Rattle.std.specs.Prelude.{Option, None, Some}
 use mathlib.Core.List.{List, [], ◌∷◌, map}
 use Rattle.road.specs.File.{Road}
 use Rattle.road.specs.Limits.{Limits}
@@ -39,7 +39,7 @@ module _ (class terrain : ℕ) (r : Road) where
   same_verdict : (rules : List Rule) (l : Limits) → judge rules l (in_class class terrain r) ≡ judge rules l r
   unfolding judge
   same_verdict [] l = refl
-  same_verdict (x ∷ later) l = ap₂ (λ (o : Option ℕ) (v : Verdict). elim o [ some place ↦ breaks (road_test x).number place | none ↦ v ]) (same_rule x l) (same_verdict later l)
+  same_verdict (x ∷ later) l = ap₂ (λ (o : Option ℕ) (v : Verdict). elim o [ Some place ↦ breaks (road_test x).number place | None ↦ v ]) (same_rule x l) (same_verdict later l)
 
   pub same-marks : marks (in_class class terrain r) ≡ marks r
   unfolding marks stands judged

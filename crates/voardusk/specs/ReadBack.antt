@@ -1,7 +1,7 @@
 -- The numbers of a call say its answer: no refusal has the number 0, and no station is what stands for none.
 use Rattle.std.specs.Prelude.{◌≡◌, refl, Bool, true, false, List, ◌⊎◌, ℕ, zero, suc, ◌*◌, ◌≤◌, ltb, eqb, length, if◌then◌else◌}
 use Rattle.std.proofs.Common.{ap, inl, inr, arith, ne_eqb}
-use Rattle.std.proofs.Math.Option.{Option, none, some}
+use Rattle.std.specs.Prelude.{Option, None, Some}
 use Rattle.file_numbers.specs.Reading.{Got, got, refused}
 use Rattle.road.specs.File.{Road, read}
 use Rattle.road.specs.Exact.{total}
@@ -153,8 +153,8 @@ pegs_read_back f pegs room = go (accepted f) refl
   where
     by : (r : Road) (o : Option ℕ) (short : Bool) → RowBack (if short then refusal 20 0 else rows_or24 r pegs o)
     by r o true = refl
-    by r (some i) false = refl
-    by r none false = refl
+    by r (Some i) false = refl
+    by r None false = refl
 
     go : (g : Got Road) → accepted f ≡ g → RowBack (pegs_on pegs room g)
     go (refused n p) e = row-refusal n p (number-above f n p e)

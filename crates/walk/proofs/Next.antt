@@ -1,6 +1,6 @@
 -- The next listed station is the first of those that are not below s.
 use Rattle.std.proofs.Common.{◌≡◌, ap, subst, [], ℕ}
-use mathlib.Core.Option.{none, some}
+use Rattle.std.specs.Prelude.{None, Some}
 use mathlib.Core.List.{Memᴰ}
 use Rattle.road.specs.File.{Road}
 use Rattle.road.specs.Listed.{stations, listed, next_listed}
@@ -14,16 +14,16 @@ module _ (r : Road) (s : ℕ) where
     pub among : Memᴰ x (listed r)
     pub same : not_below s (listed r) ≡ not_below x (listed r)
 
-  first : {x : ℕ} → Least s (stations r) (some x) → First x
+  first : {x : ℕ} → Least s (stations r) (Some x) → First x
   first {x} (least m h k) = record { among = listed_has r x m; same = from-same s x (listed r) h (λ z n. k z (listed-from r z n)) }
 
-  none_is : Least s (stations r) none → not_below s (listed r) ≡ []
+  none_is : Least s (stations r) None → not_below s (listed r) ≡ []
   none_is (nothing k) = from-none s (listed r) (λ z n. k z (listed-from r z n))
 
-  pub next-first : {x : ℕ} → next_listed r s ≡ some x → First x
+  pub next-first : {x : ℕ} → next_listed r s ≡ Some x → First x
   next-first e = first (subst (Least s (stations r)) e (next-least r s))
 
-  pub next-none : next_listed r s ≡ none → not_below s (listed r) ≡ []
+  pub next-none : next_listed r s ≡ None → not_below s (listed r) ≡ []
   next-none e = none_is (subst (Least s (stations r)) e (next-least r s))
 
   pub chunk-first : {x : ℕ} (room : ℕ) → First x → chunk r s room ≡ chunk r x room

@@ -1,6 +1,6 @@
 -- One part of the listed stations after another.
 use Rattle.std.proofs.Common.{◌≡◌, sym, ap, ap₂, ◌∙◌, ℕ}
-use Rattle.std.proofs.Math.Option.{Option}
+use Rattle.std.specs.Prelude.{Option}
 use Rattle.road.specs.Exact.{total}
 use Rattle.road.specs.Held.{road_in}
 use Rattle.road.specs.Listed.{counted, multiples, element_ends}

@@ -1,6 +1,6 @@
 -- By the half length; a curve that would begin before the road begins at 0.
 use Rattle.std.proofs.Common.{◌≡◌, refl, ap, ◌∙◌, false, ℕ, ◌+◌, ◌-◌, eqb, rules, eq-eqb, ne_eqb}
-use Rattle.std.proofs.Math.Option.{Option}
+use Rattle.std.specs.Prelude.{Option}
 use Rattle.road.specs.Listed.{counted}
 use Rattle.next_listed.specs.Least.{as_option, least_with, curve_ends}
 use Rattle.next_listed.proofs.with_curve.Goals as goal

@@ -1,6 +1,6 @@
 -- One point after another.
 use Rattle.std.proofs.Common.{◌≡◌, sym, ap, ◌∙◌, List, ℕ, length, rules}
-use Rattle.std.proofs.Math.Option.{none}
+use Rattle.std.specs.Prelude.{None}
 use Rattle.road.specs.Exact.{blank_crossfall}
 use Rattle.road.specs.Listed.{counted}
 use Rattle.road.specs.Held.{road_in}
@@ -11,7 +11,7 @@ use Rattle.next_listed.specs.Counting.{counting_starts, counting_turn, counting_
 use Rattle.next_listed.proofs.with_points.Goals as goal
 
 pub loop-i-init : goal.loop-i-init
-loop-i-init c = counting_starts _ _ _ none
+loop-i-init c = counting_starts _ _ _ None
 
 pub loop-i-preserved : goal.loop-i-preserved
 unfolding least_with
@@ -27,4 +27,4 @@ returns c =
     let a = c.args.a in
     let count : length (road_in a).crossfalls ≡ a.crossfall_count = point-count a c.requires (search (rules, unmapped)) in
     counting_ends _ _ _ c.loop-i.invariant c.loop-i-test.false count
-    ∙ ap (λ (l : List ℕ). least_with c.args.s l none) (sym (items_joined (λ (p : Crossfall). p.station) blank_crossfall (road_in a).crossfalls))
+    ∙ ap (λ (l : List ℕ). least_with c.args.s l None) (sym (items_joined (λ (p : Crossfall). p.station) blank_crossfall (road_in a).crossfalls))
