@@ -1,6 +1,5 @@
 -- Document 01, "The file": how a number is written. Over plain whole numbers, at no width.
-use Rattle.std.specs.Prelude.{ℕ, zero, suc, ◌+◌, ◌*◌, ◌/◌, ◌%◌, max, List, [], ◌∷◌, Bool, true, false, ◌&&◌, drop, leb, ltb, eqb, ℤ, pos, negsuc}
-use Rattle.std.specs.Prelude.{Option, None, Some, option_map}
+use Rattle.std.specs.Prelude.{ℕ, zero, suc, ◌+◌, ◌*◌, ◌/◌, ◌%◌, max, List, [], ◌∷◌, Bool, true, false, ◌&&◌, drop, leb, ltb, eqb, ℤ, pos, negsuc, Option, None, Some, option_map}
 use Rattle.file_numbers.specs.Reading.{Got, got, refused, Reading}
 
 -- the groups of one number at the front of some bytes: what they stand for, and how many they are

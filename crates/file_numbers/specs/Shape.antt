@@ -1,10 +1,9 @@
 -- The shape of a number: its shortest form is read back as the number, and bytes that are read as a number are its shortest form. For every number, at no width. Assumes nothing.
 use Rattle.std.proofs.Math.Path.{◌≡◌, subst₂}
-use Rattle.std.specs.Prelude.{refl, List, [], ◌∷◌, ◌++◌, Bool, ◌&&◌, ℕ, zero, suc, ◌+◌, ◌*◌, ◌/◌, ◌%◌, ◌≤◌, ◌<◌, min, length, get_or, drop, take, leb, ltb, eqb}
+use Rattle.std.specs.Prelude.{refl, List, [], ◌∷◌, ◌++◌, Bool, ◌&&◌, ℕ, zero, suc, ◌+◌, ◌*◌, ◌/◌, ◌%◌, ◌≤◌, ◌<◌, min, length, get_or, drop, take, leb, ltb, eqb, Option, None, Some, option_map}
 use Rattle.std.proofs.Common.{sym, ap, ap₂, ◌∙◌, arith, length-take, length-drop, leb-true, leb-false, ltb-true, ltb-false, eqb-true, le-leb, lt-ltb, le-ltb, eq-eqb}
 use Rattle.std.proofs.Math.Bool.{true, false}
 use Rattle.std.proofs.lemmas.Bool.{false≢true, lt-leb}
-use Rattle.std.specs.Prelude.{Option, None, Some, option_map}
 use Rattle.file_numbers.specs.Reading.{got}
 use Rattle.file_numbers.specs.Number.{byte_count, greatest, Groups, lowest, groups, sound, checked_from, number_from, number, shortest_in, shortest}
 use Rattle.file_numbers.specs.Bits.{byte_count_one, byte_count_more, byte_count_some}

@@ -3,8 +3,7 @@ use Rattle.std.proofs.Math.Path.{◌≡◌, refl, ap}
 use Rattle.std.proofs.Common.{sym, ◌∙◌, subst, arith, ltb-true, leb-false, eq-eqb}
 use Prim.Native.Nat.{ℕ, zero, suc, ◌<◌}
 use mathlib.Core.List.{List, [], ◌∷◌}
-use Rattle.std.specs.Prelude.{true, false, ◌&&◌, get_or, leb, ltb, eqb}
-use Rattle.std.specs.Prelude.{Option, None, Some}
+use Rattle.std.specs.Prelude.{true, false, ◌&&◌, get_or, leb, ltb, eqb, Option, None, Some}
 use Rattle.std.proofs.Math.ListN.{length}
 use Rattle.road.specs.Base.{first_from, first_that}
 use Rattle.road.specs.File.{Road}

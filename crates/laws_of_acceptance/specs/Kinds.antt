@@ -1,9 +1,8 @@
 -- Request A.3, refusal 7: the test by neighbours accepts exactly the allowed orders of kinds, and its place is the first where no allowed order goes on as the plan does.
-use Rattle.std.specs.Prelude.{◌≡◌, ◌↔◌, Bool, not, ◌||◌, List, [], ◌∷◌, ◌++◌, map, take, drop, ltb, eqb, pos, if◌then◌else◌}
+use Rattle.std.specs.Prelude.{◌≡◌, ◌↔◌, Bool, not, ◌||◌, List, [], ◌∷◌, ◌++◌, map, take, drop, ltb, eqb, pos, if◌then◌else◌, Option, None, Some}
 use Rattle.std.proofs.Math.Path.{refl}
 use Rattle.std.proofs.Common.{sym, ap, ◌∙◌, subst, inl, inr, append_assoc, eqb-true, lt-ltb, le-ltb, take-append-drop, drop_of_length-le, drop-cons, take-take}
 use Rattle.std.proofs.Math.Bool.{true, false, or-false}
-use Rattle.std.specs.Prelude.{Option, None, Some}
 use Prim.Native.Nat.{ℕ, zero, suc, ◌+◌, ◌≤◌, ◌<◌}
 use Rattle.std.proofs.Math.Numerals.{add-one}
 use native.Mathlib.Omega.{arith}

@@ -1,7 +1,6 @@
 -- Which files are turned away: a file is accepted if and only if it reads and no item breaks a rule; from 5 on the first rule of the order that some item breaks is named, with its first such item.
-use Rattle.std.specs.Prelude.{◌≡◌, refl, Bool, true, false, ◌&&◌, ◌||◌, ◌⊎◌, ◌↔◌, List, ℕ, zero, suc, ◌≤◌, length, drop, T, leb, ltb, eqb, ℤ, pos, negsuc, if◌then◌else◌}
+use Rattle.std.specs.Prelude.{◌≡◌, refl, Bool, true, false, ◌&&◌, ◌||◌, ◌⊎◌, ◌↔◌, List, ℕ, zero, suc, ◌≤◌, length, drop, T, leb, ltb, eqb, ℤ, pos, negsuc, if◌then◌else◌, Option, None, Some}
 use Rattle.std.proofs.Common.{sym, ap, ◌∙◌, subst, inl, inr, arith, leb→le, eqb→eq}
-use Rattle.std.specs.Prelude.{Option, None, Some}
 use Rattle.file_numbers.specs.Reading.{Got, got, refused, and_then, Reading, ◌>>=◌, give, many}
 use Rattle.file_numbers.specs.Number.{Groups, groups, sound, checked_from, number_from, number, signed_of}
 use Rattle.road.specs.File.{Road, fitting, field, date, number_is, dated_fields, contract_fields, signed, between, in_size, radius, element, half, tangent, point, head_fields, plan_fields, profile_fields, crossfall_fields, fields, ended, read}

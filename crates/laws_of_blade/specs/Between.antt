@@ -1,8 +1,7 @@
 -- The line between the printed heights at two neighbouring stations of an accepted road, at any point of the lane.
-use Rattle.std.specs.Prelude.{◌≡◌, [], ◌∷◌, ℤ, ◌*ℤ◌}
+use Rattle.std.specs.Prelude.{◌≡◌, [], ◌∷◌, ℤ, ◌*ℤ◌, Option, None, Some}
 use Rattle.std.proofs.Math.Path.{refl}
 use Rattle.std.proofs.Common.{sym, ap₂, subst, subst₂, arith}
-use Rattle.std.specs.Prelude.{Option, None, Some}
 use Prim.Native.Nat.{ℕ, ◌+◌, ◌*◌, ◌-◌, ◌≤◌, ◌<◌}
 use Rattle.std.proofs.Math.IntN.{pos}
 use Rattle.integers.specs.Ring.{◌:+◌, ◌:-◌, ◌:*◌, #, ring, $}

@@ -1,7 +1,6 @@
 -- The contract picks limits alone: under any other contract a road has the same listed stations and the same rows. Assumes nothing.
-use Rattle.std.specs.Prelude.{◌≡◌, pos, ◌+ℤ◌}
+use Rattle.std.specs.Prelude.{◌≡◌, pos, ◌+ℤ◌, Option, None, Some}
 use Rattle.std.proofs.Math.Path.{refl, ap₂}
-use Rattle.std.specs.Prelude.{Option, None, Some}
 use Prim.Native.Nat.{ℕ, zero, suc}
 use Rattle.integers.specs.Fraction.{Frac, ◌÷◌, ◌×ᶠ◌}
 use Rattle.integers.specs.Rounding.{rounded}

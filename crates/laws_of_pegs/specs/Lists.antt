@@ -1,10 +1,9 @@
 -- Document 02, A.5: which lists of pegs are taken, and which peg is the first bad one. No more than 2,000, "ascending, equal ones allowed", none beyond T.
 use Prim.Native.Nat.{ℕ, zero, suc, ◌+◌, ◌≤◌, ◌<◌}
-use Rattle.std.specs.Prelude.{◌≡◌, Bool, true, ◌||◌, ◌↔◌, List, length, take, replicate}
+use Rattle.std.specs.Prelude.{◌≡◌, Bool, true, ◌||◌, ◌↔◌, List, length, take, replicate, None, Some}
 use Rattle.std.proofs.Math.Path.{sym, ap, ap₂}
 use Rattle.std.proofs.Common.{◌∙◌, subst, arith, le-leb, get_or-take, take_at}
 use Rattle.std.proofs.Math.Bool.{false}
-use Rattle.std.specs.Prelude.{None, Some}
 use Rattle.std.proofs.Math.Dec.{leb, ltb}
 use Rattle.std.proofs.lemmas.List.{length-replicate, get_or-replicate, replicate-append-replicate}
 use Rattle.std.proofs.Math.Seq.{length-take-le}

@@ -1,7 +1,6 @@
 -- Every exact value of an accepted road has a denominator above 0.
-use Rattle.std.specs.Prelude.{◌≡◌, ℕ, ◌<◌, length}
+use Rattle.std.specs.Prelude.{◌≡◌, ℕ, ◌<◌, length, Option, None, Some}
 use Rattle.std.proofs.Math.Path.{refl}
-use Rattle.std.specs.Prelude.{Option, None, Some}
 use native.Mathlib.Omega.{arith}
 use Rattle.road.specs.Base.{sum_of}
 use Rattle.road.specs.File.{Road}

@@ -1,7 +1,6 @@
 -- The exact grade at a station is that of any straight part or curve that has the station.
-use Rattle.std.specs.Prelude.{◌≡◌, refl, [], ◌∷◌, ℕ, suc, ◌+◌, ◌*◌, ◌≤◌, ℤ, pos, ◌+ℤ◌, ◌-ℤ◌, ◌*ℤ◌}
+use Rattle.std.specs.Prelude.{◌≡◌, refl, [], ◌∷◌, ℕ, suc, ◌+◌, ◌*◌, ◌≤◌, ℤ, pos, ◌+ℤ◌, ◌-ℤ◌, ◌*ℤ◌, Some}
 use Rattle.std.proofs.Common.{sym, ap, arith}
-use Rattle.std.specs.Prelude.{Some}
 use Rattle.integers.specs.Ring.{◌:+◌, ◌:-◌, ◌:*◌, #, ring, $}
 use Rattle.integers.specs.Fraction.{Frac, whole, ◌≈ᶠ◌}
 use Rattle.integers.specs.Values.{same-value}

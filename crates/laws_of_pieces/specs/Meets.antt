@@ -1,6 +1,5 @@
 -- Where neighbouring definitions meet, both sides give the value there.
-use Rattle.std.specs.Prelude.{◌≡◌, ℕ, suc, ◌+◌, ◌<◌, length}
-use Rattle.std.specs.Prelude.{Option}
+use Rattle.std.specs.Prelude.{◌≡◌, ℕ, suc, ◌+◌, ◌<◌, length, Option}
 use Rattle.std.proofs.Common.{arith}
 use Rattle.integers.specs.Fraction.{Frac, ◌≈ᶠ◌}
 use Rattle.road.specs.File.{Road}

@@ -1,7 +1,6 @@
 -- Document 01, "The blade over a whole run": which curve two rows lie in, and the value of the bound.
-use Rattle.std.specs.Prelude.{◌≡◌, refl, ◌↔◌, Bool, true, false, ◌&&◌, ℕ, ◌*◌, ◌-◌, ◌≤◌, ◌<◌, pos, nat_abs}
+use Rattle.std.specs.Prelude.{◌≡◌, refl, ◌↔◌, Bool, true, false, ◌&&◌, ℕ, ◌*◌, ◌-◌, ◌≤◌, ◌<◌, pos, nat_abs, Option, None, Some}
 use Rattle.std.proofs.Common.{sym, ap, ap₂, ◌∙◌, arith}
-use Rattle.std.specs.Prelude.{Option, None, Some}
 use Rattle.integers.specs.Bridge.{nat, ◌⊖◌, abs!, abs?}
 use Rattle.integers.specs.Fraction.{Frac, ◌÷◌, whole, ◌+ᶠ◌, ◌≈ᶠ◌}
 use Rattle.integers.specs.Values.{same-value, other_way}

@@ -1,7 +1,6 @@
 -- Between neighbouring stations the road is of one piece: one curve or one straight part, and one pair of crossfall points.
-use Rattle.std.specs.Prelude.{◌≡◌, refl, ◌&&◌}
+use Rattle.std.specs.Prelude.{◌≡◌, refl, ◌&&◌, None, Some}
 use Rattle.std.proofs.Common.{ap}
-use Rattle.std.specs.Prelude.{None, Some}
 use mathlib.Core.List.{Memᴰ}
 use Prim.Native.Nat.{ℕ, zero, suc, ◌+◌, ◌-◌, ◌≤◌, ◌<◌}
 use native.Mathlib.Omega.{arith}

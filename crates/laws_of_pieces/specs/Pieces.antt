@@ -1,8 +1,7 @@
 -- The straight parts and the curves of the profile: where two of them have a station in common, they have one value, be it height or grade.
-use Rattle.std.specs.Prelude.{◌≡◌, true, ◌&&◌, leb, ltb}
+use Rattle.std.specs.Prelude.{◌≡◌, true, ◌&&◌, leb, ltb, Option, None, Some}
 use Rattle.std.proofs.Math.Path.{refl, subst}
 use Rattle.std.proofs.Common.{sym, ap, ltb-true, leb-true, lt-ltb, le-leb}
-use Rattle.std.specs.Prelude.{Option, None, Some}
 use Prim.Native.Nat.{ℕ, zero, suc, ◌+◌, ◌-◌, ◌≤◌, ◌<◌}
 use native.Mathlib.Omega.{arith}
 use Rattle.std.proofs.Math.Decide.{dec_lt, dec_le}

@@ -1,9 +1,8 @@
 -- Ascending lists: they are made by `ascending`, the least number from s on is their next one, and their members tell them apart.
-use Rattle.std.specs.Prelude.{◌≡◌, refl, Bool, true, false, ◌⊎◌, length, get_or, leb, if◌then◌else◌}
+use Rattle.std.specs.Prelude.{◌≡◌, refl, Bool, true, false, ◌⊎◌, length, get_or, leb, if◌then◌else◌, Option, Some}
 use Rattle.std.proofs.Common.{sym, ap, ap₂, ◌∙◌, inl, inr, arith, leb-true, leb-false, le-leb, eqb-true}
 use mathlib.Core.List.Memᴰ
 use mathlib.Core.List.{[], List, ◌∷◌, ◌++◌, Memᴰ}
-use Rattle.std.specs.Prelude.{Option, Some}
 use Prim.Native.Nat.{ℕ, zero, suc, ◌≤◌, ◌<◌, min, compare, Ordering}
 use Rattle.std.proofs.lemmas.Bool.{lt-leb, eqb-false}
 use Rattle.std.proofs.Math.Dec.{is_le, compare_is_eq}

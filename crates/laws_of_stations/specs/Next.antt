@@ -1,9 +1,8 @@
 -- What the next station is: the least listed one that is not below s; the ascending list has the same members.
-use Rattle.std.specs.Prelude.{◌≡◌, refl, Bool, true, false, ◌⊎◌, leb, if◌then◌else◌}
+use Rattle.std.specs.Prelude.{◌≡◌, refl, Bool, true, false, ◌⊎◌, leb, if◌then◌else◌, Option, None, Some}
 use Rattle.std.proofs.Common.{◌∙◌, inl, inr, arith, leb-true, leb-false}
 use mathlib.Core.List.Memᴰ
 use mathlib.Core.List.{List, [], ◌∷◌, Memᴰ}
-use Rattle.std.specs.Prelude.{Option, None, Some}
 use Prim.Native.Nat.{ℕ, ◌≤◌, ◌<◌, min, compare, Ordering}
 use Rattle.std.proofs.Math.Decide.{dec_le}
 use Rattle.road.specs.File.{Road}

@@ -1,7 +1,6 @@
 -- The least of some stations that is not below s, found one station after another.
-use Rattle.std.specs.Prelude.{◌≡◌, refl, List, [], ◌∷◌, ◌++◌, map, ℕ, ◌+◌, ◌-◌, eqb, if◌then◌else◌}
+use Rattle.std.specs.Prelude.{◌≡◌, refl, List, [], ◌∷◌, ◌++◌, map, ℕ, ◌+◌, ◌-◌, eqb, if◌then◌else◌, Option, None, Some}
 use Rattle.std.proofs.Common.{ap, ◌∙◌}
-use Rattle.std.specs.Prelude.{Option, None, Some}
 use Rattle.road.specs.File.{Road}
 use Rattle.road.specs.Base.{joined, count_from}
 use Rattle.road.specs.Exact.{total, vertex_count}

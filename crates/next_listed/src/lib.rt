@@ -2,8 +2,7 @@
 
 #![tactic(auto)]
 
-ghost use Rattle.std.specs.Prelude.{◌≡◌, ℕ, ◌+◌, ◌<◌, ◌≤◌};
-ghost use Rattle.std.specs.Prelude.{None};
+ghost use Rattle.std.specs.Prelude.{◌≡◌, ℕ, ◌+◌, ◌<◌, ◌≤◌, None};
 ghost use Rattle.road.specs.Exact.{total};
 ghost use Rattle.road.specs.Held.{road_in, Counted};
 ghost use Rattle.road.specs.Listed.{counted, multiples, element_ends, next_listed};

@@ -1,8 +1,7 @@
 -- What a call for pegs answers and leaves in the buffer, by the outcome of each test.
-use Rattle.std.specs.Prelude.{◌≡◌, List, ℕ, ◌*◌, ◌/◌, ◌%◌, ◌≤◌, ◌<◌, length}
+use Rattle.std.specs.Prelude.{◌≡◌, List, ℕ, ◌*◌, ◌/◌, ◌%◌, ◌≤◌, ◌<◌, length, None, Some}
 use Rattle.std.proofs.Math.Path.{sym}
 use Rattle.std.proofs.Common.{ap, ◌∙◌, arith, div-add-mod', mod-lt, lt-ltb, le-ltb}
-use Rattle.std.specs.Prelude.{None, Some}
 use Rattle.file_numbers.specs.Reading.{got, refused}
 use Rattle.road.specs.File.{Road}
 use Rattle.road.specs.Exact.{total}

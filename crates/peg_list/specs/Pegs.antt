@@ -1,6 +1,5 @@
 -- Document 02, A.5: the rows of a list of pegs.
-use Rattle.std.specs.Prelude.{ℕ, zero, suc, ◌*◌, Bool, false, ◌||◌, List, length, get_or, leb, ltb, if◌then◌else◌}
-use Rattle.std.specs.Prelude.{Option, None, Some}
+use Rattle.std.specs.Prelude.{ℕ, zero, suc, ◌*◌, Bool, false, ◌||◌, List, length, get_or, leb, ltb, if◌then◌else◌, Option, None, Some}
 use Rattle.file_numbers.specs.Reading.{Got, got, refused}
 use Rattle.road.specs.Base.{first_that, joined}
 use Rattle.road.specs.File.{Road}

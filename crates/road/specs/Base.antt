@@ -1,6 +1,5 @@
 -- Choice, search and sums.
-use Rattle.std.specs.Prelude.{ℕ, zero, suc, ◌+◌, Bool, true, false, List, [], ◌∷◌, ◌++◌}
-use Rattle.std.specs.Prelude.{Option, None, Some}
+use Rattle.std.specs.Prelude.{ℕ, zero, suc, ◌+◌, Bool, true, false, List, [], ◌∷◌, ◌++◌, Option, None, Some}
 
 -- the least of i, .. , i + n - 1 that passes a test
 unfoldable pub first_from : (ℕ → Bool) → ℕ → ℕ → Option ℕ

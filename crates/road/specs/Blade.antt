@@ -1,7 +1,6 @@
 -- Document 01, "The blade over a whole run": the blade between two stations of a road, and its bound.
-use Rattle.std.specs.Prelude.{ℕ, ◌*◌, ◌-◌, ◌<◌, ◌&&◌, ℤ, pos, ◌-ℤ◌, ◌*ℤ◌}
+use Rattle.std.specs.Prelude.{ℕ, ◌*◌, ◌-◌, ◌<◌, ◌&&◌, ℤ, pos, ◌-ℤ◌, ◌*ℤ◌, Option, None, Some}
 use mathlib.Core.List.{Memᴰ}
-use Rattle.std.specs.Prelude.{Option, None, Some}
 use Rattle.road.specs.Base.{first_that}
 use Rattle.integers.specs.Fraction.{Frac, ◌÷◌, whole, ◌+ᶠ◌, ◌×ᶠ◌, size}
 use Rattle.road.specs.File.{Road}

@@ -2,14 +2,14 @@
 use Rattle.std.specs.Prelude.{ℕ, ◌-◌, ◌≤◌, List, ◌++◌, length, take, replicate}
 use Rattle.road.specs.File.{Road}
 use Rattle.road.specs.Exact.{blank_element, blank_tangent, blank_crossfall}
-use Rattle.road.specs.declared.Alignment.{Alignment}
+use Rattle.road.specs.declared.alignment.Alignment.TheInside.{Inside}
 
 -- a list in an array of n places, whose other places hold d
 unfoldable pub padded : {A : Type 0} → ℕ → A → List A → List A
 padded n d xs = xs ++ replicate (n - length xs) d
 
 -- the alignment that holds a road
-unfoldable pub held : Road → Alignment
+unfoldable pub held : Road → Inside
 held r = record {
   head = r.head;
   elements = padded 200 blank_element r.plan;
@@ -22,7 +22,7 @@ held r = record {
 }
 
 -- the road that an alignment holds: the first items of its arrays, as many as its counts say
-abbrev pub road_in : Alignment → Road
+abbrev pub road_in : Inside → Road
 road_in a = record {
   head = a.head;
   plan = take a.element_count a.elements;
@@ -32,7 +32,7 @@ road_in a = record {
 }
 
 -- counts that the arrays have places for
-pub record Counted (a : Alignment) : Type 0 where
+pub record Counted (a : Inside) : Type 0 where
   pub plan : a.element_count ≤ 200
   pub profile : a.tangent_count ≤ 100
   pub points : a.crossfall_count ≤ 200

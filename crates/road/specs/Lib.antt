@@ -8,6 +8,7 @@ pub mod Held
 pub mod Listed
 pub mod Kinds
 pub mod Rules
+pub mod Faults
 pub mod Line
 pub mod Machine
 pub mod Blade

@@ -1,6 +1,7 @@
 -- Document 01, "Speed and its row", with the rule book that request A.1 gives to the contract's date.
 use Rattle.std.specs.Prelude.{ℕ, ◌-◌, ◌/◌, List, [], ◌∷◌, Bool, true, false, not, get_or, ltb, eqb}
 use Rattle.road.specs.File.{Road}
+pub use Rattle.road.specs.declared.Limits.{Limits}
 use Rattle.road.specs.declared.Contract.{Contract}
 use Rattle.road.specs.declared.Contract.TheVariants.{Undated, Dated}
 use Rattle.road.specs.declared.LeastClothoid.{LeastClothoid}
@@ -68,22 +69,6 @@ radius_min_at v false = cell table v 2
 unfoldable pub clothoid_at : (speed : ℕ) → (old : Bool) → LeastClothoid
 clothoid_at v true = Length (cell handbook v 1)
 clothoid_at v false = Parameter (cell table v 4)
-
--- what the rules and the drop ask of the rule book
-pub record Limits : Type 0 where
-  pub straight_max : ℕ
-  pub straight_min : ℕ
-  pub radius_min : ℕ
-  pub radius_both : ℕ
-  pub clothoid : LeastClothoid
-  pub arc_min : ℕ
-  pub grade_max : ℕ
-  pub sag_radius : ℕ
-  pub crest_radius : ℕ
-  pub lane : ℕ
-  pub crossfall_min : ℕ
-  pub crossfall_max : ℕ
-  pub crown : ℕ
 
 -- "The row of the speed decides every limit below"; refusals 17 and 19 have the crossfalls in ppm
 unfoldable pub limits_at : (speed : ℕ) → Contract → Limits

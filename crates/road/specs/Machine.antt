@@ -1,16 +1,13 @@
 -- Document 01, the two routines, and "The blade over a whole run": the plain machine.
-use Rattle.std.specs.Prelude.{ℕ, List, [], ◌∷◌, ◌++◌, length, drop, ltb, if◌then◌else◌}
-use Rattle.std.specs.Prelude.{Option, None, Some}
+use Rattle.std.specs.Prelude.{ℕ, List, [], ◌∷◌, ◌++◌, length, drop, ltb, if◌then◌else◌, Option, None, Some, Result, Ok, Err}
 use Rattle.file_numbers.specs.Reading.{Got, got, refused}
 use Rattle.road.specs.File.{Road}
 use Rattle.road.specs.Exact.{total}
 use Rattle.road.specs.Listed.{next_listed}
 use Rattle.road.specs.Rules.{accepted}
 use Rattle.road.specs.Line.{line}
-use Rattle.road.specs.declared.RowAnswer.{RowAnswer}
-use Rattle.road.specs.declared.RowAnswer.TheVariants as Row
-use Rattle.road.specs.declared.NextAnswer.{NextAnswer}
-use Rattle.road.specs.declared.NextAnswer.TheVariants as Next
+use Rattle.road.specs.Faults.{fault_number}
+use Rattle.road.specs.declared.refusal.Refusal.{Refusal}
 
 -- ---- the two routines
 
@@ -21,15 +18,15 @@ pub data Answer : Type 0 where
   station : (least : ℕ) → Answer
   no_station : Answer
 
--- what each case of the code's enums stands for
-abbrev pub of_row : RowAnswer → Answer
-of_row (Row.Refused n p) = refusal n p
-of_row (Row.Length n) = wrote n
+-- what the code's results stand for
+abbrev pub of_row : Result ℕ Refusal → Answer
+of_row (Err e) = refusal (fault_number e.fault) e.place
+of_row (Ok n) = wrote n
 
-abbrev pub of_next : NextAnswer → Answer
-of_next (Next.Refused n p) = refusal n p
-of_next (Next.Station s) = station s
-of_next Next.Nothing = no_station
+abbrev pub of_next : Result (Option ℕ) Refusal → Answer
+of_next (Err e) = refusal (fault_number e.fault) e.place
+of_next (Ok (Some s)) = station s
+of_next (Ok None) = no_station
 
 -- 20. "The buffer is shorter than 96 bytes (place 0)." 21. "The station is beyond T (place 0)."
 abbrev pub row_of : Road → (station room : ℕ) → Answer

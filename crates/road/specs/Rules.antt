@@ -1,6 +1,5 @@
 -- Document 01, "Numbers that turn a file away": 5 to 19, and request A.3's 23. Each rule is a test of its item with those beside it; a table for each list gives it its number, and the order places it.
-use Rattle.std.specs.Prelude.{ℕ, zero, suc, ◌+◌, ◌*◌, ◌-◌, List, [], ◌∷◌, reverse, Bool, true, false, not, ◌&&◌, ◌||◌, length, take, get_or, leb, ltb, eqb, ℤ, pos, nat_abs, ◌-ℤ◌, neg_ℤ, if◌then◌else◌}
-use Rattle.std.specs.Prelude.{Option, None, Some}
+use Rattle.std.specs.Prelude.{ℕ, zero, suc, ◌+◌, ◌*◌, ◌-◌, List, [], ◌∷◌, reverse, Bool, true, false, not, ◌&&◌, ◌||◌, length, take, get_or, leb, ltb, eqb, ℤ, pos, nat_abs, ◌-ℤ◌, neg_ℤ, if◌then◌else◌, Option, None, Some}
 use Rattle.std.proofs.Math.ListN as L
 use Rattle.std.specs.Int.Signed.{lt_z}
 use Rattle.file_numbers.specs.Reading.{Got, got, refused, and_then}
@@ -13,6 +12,9 @@ use Rattle.road.specs.declared.LeastClothoid.TheVariants.{Parameter, Length}
 use Rattle.road.specs.declared.Element.{Element}
 use Rattle.road.specs.declared.Tangent.{Tangent}
 use Rattle.road.specs.declared.Crossfall.{Crossfall}
+pub use Rattle.road.specs.declared.ElementAmong.{ElementAmong}
+pub use Rattle.road.specs.declared.TangentAmong.{TangentAmong}
+pub use Rattle.road.specs.declared.PointAmong.{PointAmong}
 use Rattle.road.specs.declared.ElementRule.{ElementRule}
 use Rattle.road.specs.declared.ElementRule.TheVariants as element
 use Rattle.road.specs.declared.TangentRule.{TangentRule}
@@ -21,33 +23,6 @@ use Rattle.road.specs.declared.PointRule.{PointRule}
 use Rattle.road.specs.declared.PointRule.TheVariants as point
 use Rattle.road.specs.declared.Rule.{Rule}
 use Rattle.road.specs.declared.Rule.TheVariants as rule
-
--- ---- an item with its place, its list's count, and those beside it; past either end of a list stands the blank item
-
--- an element, where it ends, the two before it and the one after it
-pub record ElementAmong : Type 0 where
-  pub place : ℕ
-  pub count : ℕ
-  pub end : ℕ
-  pub earlier : Element
-  pub before : Element
-  pub element : Element
-  pub after : Element
-
-pub record TangentAmong : Type 0 where
-  pub before : Tangent
-  pub tangent : Tangent
-  pub after : Tangent
-
--- a crossfall point, T and the ramp limit
-pub record PointAmong : Type 0 where
-  pub place : ℕ
-  pub count : ℕ
-  pub whole : ℕ
-  pub ramp : ℕ
-  pub before : Crossfall
-  pub point : Crossfall
-  pub after : Crossfall
 
 -- ---- turns
 

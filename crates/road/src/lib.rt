@@ -1,6 +1,12 @@
-// The declared types that the definitions of specs/ speak of.
+// The declared types that the definitions of specs/ speak of, an alignment and its lists, and what a file or a call is refused for.
 
 #![tactic(auto)]
+
+mod alignment;
+mod refusal;
+
+pub use alignment::Alignment;
+pub use refusal::{Fault, Refusal};
 
 // An element of the plan: kind 0 straight, 1 arc, 2 clothoid; the radius of what is no arc is 0.
 #[derive(Clone, Copy)]
@@ -50,25 +56,54 @@ pub struct Head {
     pub ramp: u32,
 }
 
-// An alignment is held as three lists with their counts.
+// What the rules and the drop ask of the rule book: the row of a speed, and the crossfalls of refusals 17 and 19.
 #[derive(Clone, Copy)]
-pub struct Alignment {
-    pub head: Head,
-    pub elements: [Element; 200],
-    pub element_count: usize,
-    pub start: i32,
-    pub tangents: [Tangent; 100],
-    pub tangent_count: usize,
-    pub crossfalls: [Crossfall; 200],
-    pub crossfall_count: usize,
+pub struct Limits {
+    pub straight_max: u32,
+    pub straight_min: u32,
+    pub radius_min: u32,
+    pub radius_both: u32,
+    pub clothoid: LeastClothoid,
+    pub arc_min: u32,
+    pub grade_max: u32,
+    pub sag_radius: u32,
+    pub crest_radius: u32,
+    pub lane: u32,
+    pub crossfall_min: u32,
+    pub crossfall_max: u32,
+    pub crown: u32,
 }
 
-// An accepted road: its alignment, and what every caller asks of it, the lane width and T.
+// An element with its place, its list's count, where it ends, the two before it and the one after it; past either end of a list stands the blank item.
 #[derive(Clone, Copy)]
-pub struct AcceptedRoad {
-    pub alignment: Alignment,
-    pub lane: u32,
-    pub total: u64,
+pub struct ElementAmong {
+    pub place: usize,
+    pub count: usize,
+    pub end: u64,
+    pub earlier: Element,
+    pub before: Element,
+    pub element: Element,
+    pub after: Element,
+}
+
+// A tangent with those beside it.
+#[derive(Clone, Copy)]
+pub struct TangentAmong {
+    pub before: Tangent,
+    pub tangent: Tangent,
+    pub after: Tangent,
+}
+
+// A crossfall point with its place, its list's count, T, the ramp limit, and those beside it.
+#[derive(Clone, Copy)]
+pub struct PointAmong {
+    pub place: usize,
+    pub count: usize,
+    pub whole: u64,
+    pub ramp: u32,
+    pub before: Crossfall,
+    pub point: Crossfall,
+    pub after: Crossfall,
 }
 
 // The rules of an element with those beside it.
@@ -108,19 +143,4 @@ pub enum Rule {
     Tangent(TangentRule),
     Point(PointRule),
     Superelevation,
-}
-
-// The answer of a row call: a refusal and its place, or the line's length.
-#[derive(Clone, Copy)]
-pub enum RowAnswer {
-    Refused(u32, usize),
-    Length(usize),
-}
-
-// The answer of a next call: a refusal and its place, a station, or that there is none.
-#[derive(Clone, Copy)]
-pub enum NextAnswer {
-    Refused(u32, usize),
-    Station(u64),
-    Nothing,
 }

@@ -1,9 +1,8 @@
 -- The loops over one list that keep the item before, wherever the items come from: their laws over item i.
 -- The items that a loop holds are those around item i, so its test is the rule's at place i, and the search goes on or ends there.
-use Rattle.std.specs.Prelude.{◌≡◌, refl, Bool, true, false, ℕ, suc, ◌+◌, ◌<◌, ◌≤◌, length}
+use Rattle.std.specs.Prelude.{◌≡◌, refl, Bool, true, false, ℕ, suc, ◌+◌, ◌<◌, ◌≤◌, length, None, Some}
 use Rattle.std.proofs.Common.{sym, ◌∙◌, arith, add-one}
 use Rattle.std.proofs.Math.Path.{ap}
-use Rattle.std.specs.Prelude.{None, Some}
 use Rattle.road.specs.Base.{first_that, sum_of}
 use Rattle.road.specs.File.{Road}
 use Rattle.road.specs.Limits.{Limits}

@@ -1,7 +1,6 @@
 -- Refusal 19: elements and pairs of points passed together, wherever the items come from. The laws of the loop over element i and points j and j + 1.
-use Rattle.std.specs.Prelude.{◌≡◌, refl, Bool, true, false, ◌&&◌, ℕ, suc, ◌+◌, ◌<◌, ◌≤◌, length, leb, ltb}
+use Rattle.std.specs.Prelude.{◌≡◌, refl, Bool, true, false, ◌&&◌, ℕ, suc, ◌+◌, ◌<◌, ◌≤◌, length, leb, ltb, None, Some}
 use Rattle.std.proofs.Common.{sym, ap, ◌∙◌, arith, add-one, ltb-true, leb-true, leb-false, lt-ltb}
-use Rattle.std.specs.Prelude.{None, Some}
 use Rattle.road.specs.Base.{first_that, sum_of}
 use Rattle.road.specs.File.{Road}
 use Rattle.road.specs.Limits.{Limits}

@@ -1,7 +1,6 @@
 -- "with that speed's row in place of the class's": in any other class and terrain a road has the same marks. Assumes nothing.
-use Rattle.std.specs.Prelude.{◌≡◌, Bool, ℕ}
+use Rattle.std.specs.Prelude.{◌≡◌, Bool, ℕ, Option, None, Some}
 use Rattle.std.proofs.Math.Path.{refl, ap, ap₂}
-use Rattle.std.specs.Prelude.{Option, None, Some}
 use mathlib.Core.List.{List, [], ◌∷◌, map}
 use Rattle.road.specs.File.{Road}
 use Rattle.road.specs.Limits.{Limits}

@@ -1,7 +1,6 @@
 -- The numbers of a call say its answer: no refusal has the number 0, and no station is what stands for none.
-use Rattle.std.specs.Prelude.{◌≡◌, refl, Bool, true, false, List, ◌⊎◌, ℕ, zero, suc, ◌*◌, ◌≤◌, ltb, eqb, length, if◌then◌else◌}
+use Rattle.std.specs.Prelude.{◌≡◌, refl, Bool, true, false, List, ◌⊎◌, ℕ, zero, suc, ◌*◌, ◌≤◌, ltb, eqb, length, if◌then◌else◌, Option, None, Some}
 use Rattle.std.proofs.Common.{ap, inl, inr, arith, ne_eqb}
-use Rattle.std.specs.Prelude.{Option, None, Some}
 use Rattle.file_numbers.specs.Reading.{Got, got, refused}
 use Rattle.road.specs.File.{Road, read}
 use Rattle.road.specs.Exact.{total}

@@ -1,0 +1,131 @@
+// An alignment: its head, the start height, and the three lists in arrays with their counts.
+
+ghost use Rattle.std.specs.Prelude.{◌≡◌, ◌<◌, ◌≤◌, ◌++◌, ◌∷◌, [], length, pos};
+
+use crate::{Contract, Crossfall, Element, Head, Tangent};
+use std::marker::Model;
+
+// An alignment is held as three lists with their counts. Contracts see the road that it holds.
+#[derive(Drop)]
+pub struct Alignment {
+    head: Head,
+    elements: [Element; 200],
+    element_count: usize,
+    start: i32,
+    tangents: [Tangent; 100],
+    tangent_count: usize,
+    crossfalls: [Crossfall; 200],
+    crossfall_count: usize,
+}
+
+impl Model for Alignment {
+    ghost use Rattle.road.specs.File.{Road};
+
+    ghost Value = { Road };
+
+    ghost use Rattle.road.specs.Held.{road_in, Counted};
+
+    ghost view = { road_in };
+
+    ghost invariant = { Counted };
+}
+
+impl Alignment {
+    // An alignment with no item, its start at height 0.
+    pub fn new(head: Head) -> Self
+        ensures { result ≡ record { head = head; plan = []; start = pos 0; tangents = []; crossfalls = [] } }
+    {
+        Alignment {
+            head,
+            elements: [Element {
+                kind: 0,
+                length: 0,
+                radius: 0,
+            }; 200],
+            element_count: 0,
+            start: 0,
+            tangents: [Tangent {
+                length: 0,
+                grade: 0,
+                half: 0,
+            }; 100],
+            tangent_count: 0,
+            crossfalls: [Crossfall {
+                station: 0,
+                left: 0,
+                right: 0,
+            }; 200],
+            crossfall_count: 0,
+        }
+    }
+
+    pub fn head(&self) -> Head
+        ensures { result ≡ self.now.head }
+    {
+        self.head
+    }
+
+    // The start height.
+    pub fn start(&self) -> i32
+        ensures { result ≡ self.now.start }
+    {
+        self.start
+    }
+
+    // The plan.
+    pub fn elements(&self) -> &[Element]
+        ensures items { result.now ≡ self.now.plan }
+        ensures few { length result.now ≤ 200 }
+    {
+        &self.elements[..self.element_count]
+    }
+
+    // The profile.
+    pub fn tangents(&self) -> &[Tangent]
+        ensures items { result.now ≡ self.now.tangents }
+        ensures few { length result.now ≤ 100 }
+    {
+        &self.tangents[..self.tangent_count]
+    }
+
+    // The crossfall points.
+    pub fn crossfalls(&self) -> &[Crossfall]
+        ensures items { result.now ≡ self.now.crossfalls }
+        ensures few { length result.now ≤ 200 }
+    {
+        &self.crossfalls[..self.crossfall_count]
+    }
+
+    pub fn set_start(&mut self, start: i32)
+        ensures { self.new ≡ record { head = self.old.head; plan = self.old.plan; start = start; tangents = self.old.tangents; crossfalls = self.old.crossfalls } }
+    {
+        self.start = start;
+    }
+
+    // One more element behind the others.
+    pub fn push_element(&mut self, e: Element)
+        requires { length self.old.plan < 200 }
+        ensures { self.new ≡ record { head = self.old.head; plan = self.old.plan ++ (e ∷ []); start = self.old.start; tangents = self.old.tangents; crossfalls = self.old.crossfalls } }
+    {
+        self.elements[self.element_count] = e;
+        self.element_count += 1;
+    }
+
+    // One more tangent behind the others.
+    pub fn push_tangent(&mut self, t: Tangent)
+        requires { length self.old.tangents < 100 }
+        ensures { self.new ≡ record { head = self.old.head; plan = self.old.plan; start = self.old.start; tangents = self.old.tangents ++ (t ∷ []); crossfalls = self.old.crossfalls } }
+    {
+        self.tangents[self.tangent_count] = t;
+        self.tangent_count += 1;
+    }
+
+    // One more crossfall point behind the others.
+    pub fn push_crossfall(&mut self, p: Crossfall)
+        requires { length self.old.crossfalls < 200 }
+        ensures { self.new ≡ record { head = self.old.head; plan = self.old.plan; start = self.old.start; tangents = self.old.tangents; crossfalls = self.old.crossfalls ++ (p ∷ []) } }
+    {
+        self.crossfalls[self.crossfall_count] = p;
+        self.crossfall_count += 1;
+    }
+}
