@@ -7,7 +7,7 @@ use Rattle.std.specs.Prelude.{true, false, ◌&&◌, get_or, leb, ltb, eqb, Opti
 use Rattle.std.proofs.Math.ListN.{length}
 use Rattle.road.specs.Base.{first_from, first_that}
 use Rattle.road.specs.File.{Road}
-use Rattle.road.specs.Limits.{Limits}
+use Rattle.road.specs.declared.Limits.{Limits}
 use Rattle.road.specs.Rules.{passes, breaks, road_test, order, first_broken, judge}
 use Rattle.laws_of_search.specs.Searches.{FirstAt, first_some, first-none, first-clear, first_at_some}
 use Rattle.laws_of_lists.specs.Tests.{and_no_then}

@@ -10,7 +10,7 @@ use Rattle.std.proofs.Math.Decide.{dec_lt}
 use Rattle.std.proofs.Math.ListN.{length}
 use Rattle.road.specs.Base.{first_from, first_that}
 use Rattle.road.specs.File.{Road}
-use Rattle.road.specs.Limits.{Limits}
+use Rattle.road.specs.declared.Limits.{Limits}
 use Rattle.road.specs.Exact.{blank_element, element_of}
 use Rattle.road.specs.Kinds.{BehindArc, last, reversing, egg, AllowedOrder, straight, bend}
 use Rattle.road.specs.Rules.{may_follow, may_stand, wrong_kind, element_earlier, element_before, road_test, first_broken}

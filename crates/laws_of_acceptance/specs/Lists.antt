@@ -7,7 +7,7 @@ use Rattle.road.specs.Base.{sum_of}
 use Rattle.road.specs.File.{Road}
 use Rattle.road.specs.Exact.{blank_element, blank_tangent, blank_crossfall, element_of, tangent_of, point_of, element_start, tangent_start, total}
 use Rattle.road.specs.Held.{road_in, Counted}
-use Rattle.road.specs.declared.Alignment.{Alignment}
+use Rattle.road.specs.declared.alignment.Alignment.TheInside.{Inside}
 use Rattle.road.specs.declared.Element.{Element}
 use Rattle.road.specs.declared.Tangent.{Tangent}
 
@@ -40,7 +40,7 @@ module _ {A : Type 0} (l : List A) (n : ℕ) where
 
 -- ---- the three lists
 
-module _ (a : Alignment) (i : ℕ) where
+module _ (a : Inside) (i : ℕ) where
   pub element-item : i < a.element_count → get_or a.elements i blank_element ≡ element_of (road_in a) i
   element-item h = item_in a.elements a.element_count i blank_element h
 
@@ -51,7 +51,7 @@ module _ (a : Alignment) (i : ℕ) where
   point-item h = item_in a.crossfalls a.crossfall_count i blank_crossfall h
 
 -- an item of the list is one of the array
-module _ (a : Alignment) (i : ℕ) where
+module _ (a : Inside) (i : ℕ) where
   pub element-within : i < length (road_in a).plan → i < a.element_count
   element-within h = take_within a.elements a.element_count i h
 
@@ -61,7 +61,7 @@ module _ (a : Alignment) (i : ℕ) where
   pub point-within : i < length (road_in a).crossfalls → i < a.crossfall_count
   point-within h = take_within a.crossfalls a.crossfall_count i h
 
-module _ (a : Alignment) (k : Counted a) where
+module _ (a : Inside) (k : Counted a) where
   pub plan-count : length a.elements ≡ 200 → length (road_in a).plan ≡ a.element_count
   plan-count e = count-take a.elements a.element_count e k.plan
 
@@ -113,25 +113,25 @@ module _ {start : ℕ → ℕ} {n i sum : ℕ} (s : Sums start n i sum) where
   sums_end {m} e h = let w = s.within in let same : i ≡ m = omega arith in s.is ∙ ap start same
 
 -- the sums of the plan and of the profile: at the start, one item on, and at the end
-pub element_sums_start : (a : Alignment) → Counted a → Sums (element_start (road_in a)) a.element_count 0 0
+pub element_sums_start : (a : Inside) → Counted a → Sums (element_start (road_in a)) a.element_count 0 0
 unfolding element_start sum_of
 element_sums_start a k = let h = k.plan in sums_start (omega arith) refl
 
-pub element_sums_end : (a : Alignment) → Counted a → {i sum : ℕ} → Sums (element_start (road_in a)) a.element_count i sum → a.element_count ≤ i → length a.elements ≡ 200 → sum ≡ total (road_in a)
+pub element_sums_end : (a : Inside) → Counted a → {i sum : ℕ} → Sums (element_start (road_in a)) a.element_count i sum → a.element_count ≤ i → length a.elements ≡ 200 → sum ≡ total (road_in a)
 unfolding total
 element_sums_end a k s h e = sums_end s (plan-count a k e) h
 
-pub tangent_sums_start : (a : Alignment) → Counted a → Sums (tangent_start (road_in a)) a.tangent_count 0 0
+pub tangent_sums_start : (a : Inside) → Counted a → Sums (tangent_start (road_in a)) a.tangent_count 0 0
 unfolding tangent_start sum_of
 tangent_sums_start a k = let h = k.profile in sums_start (omega arith) refl
 
-pub tangent_sums_end : (a : Alignment) → Counted a → {i sum : ℕ} → Sums (tangent_start (road_in a)) a.tangent_count i sum → a.tangent_count ≤ i → length a.tangents ≡ 100 → sum ≡ tangent_start (road_in a) (length (road_in a).tangents)
+pub tangent_sums_end : (a : Inside) → Counted a → {i sum : ℕ} → Sums (tangent_start (road_in a)) a.tangent_count i sum → a.tangent_count ≤ i → length a.tangents ≡ 100 → sum ≡ tangent_start (road_in a) (length (road_in a).tangents)
 tangent_sums_end a k s h e = sums_end s (tangent-count a k e) h
 
-pub element_sums : (a : Alignment) {i sum : ℕ} → Sums (element_start (road_in a)) a.element_count i sum → i < a.element_count → (get_or a.elements i blank_element).length ≤ 4294967295
+pub element_sums : (a : Inside) {i sum : ℕ} → Sums (element_start (road_in a)) a.element_count i sum → i < a.element_count → (get_or a.elements i blank_element).length ≤ 4294967295
     → Sums (element_start (road_in a)) a.element_count (i + 1) (sum + (get_or a.elements i blank_element).length)
 element_sums a {i} s h small = sums_on s h small (element-step (road_in a) i ∙ ap (λ (e : Element). element_start (road_in a) i + e.length) (sym (element-item a i h)))
 
-pub tangent_sums : (a : Alignment) {i sum : ℕ} → Sums (tangent_start (road_in a)) a.tangent_count i sum → i < a.tangent_count → (get_or a.tangents i blank_tangent).length ≤ 4294967295
+pub tangent_sums : (a : Inside) {i sum : ℕ} → Sums (tangent_start (road_in a)) a.tangent_count i sum → i < a.tangent_count → (get_or a.tangents i blank_tangent).length ≤ 4294967295
     → Sums (tangent_start (road_in a)) a.tangent_count (i + 1) (sum + (get_or a.tangents i blank_tangent).length)
 tangent_sums a {i} s h small = sums_on s h small (tangent-step (road_in a) i ∙ ap (λ (t : Tangent). tangent_start (road_in a) i + t.length) (sym (tangent-item a i h)))

@@ -6,7 +6,7 @@ use Rattle.std.proofs.Math.Decide.{dec_lt}
 use borrow.Author.Tests.{lt-ltb, le-ltb, eqb-true, ne_eqb, not-false}
 use Rattle.laws_of_lists.specs.Tests.{true_false, and_left, and_right, or_yes}
 use Rattle.road.specs.File.{Road}
-use Rattle.road.specs.Limits.{Limits}
+use Rattle.road.specs.declared.Limits.{Limits}
 use Rattle.road.specs.Exact.{element_of, is_straight, is_arc, is_clothoid}
 use Rattle.road.specs.Rules.{may_follow, wrong_kind, element_before}
 use Rattle.laws_of_acceptance.specs.Judging.{Keeps}

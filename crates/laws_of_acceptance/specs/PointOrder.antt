@@ -5,7 +5,7 @@ use Rattle.std.proofs.Math.Decide.{dec_lt}
 use Rattle.std.proofs.lemmas.Bool.{not-false}
 use Rattle.std.proofs.Math.ListN.{get_or-eq_default}
 use Rattle.road.specs.File.{Road}
-use Rattle.road.specs.Limits.{Limits}
+use Rattle.road.specs.declared.Limits.{Limits}
 use Rattle.road.specs.Exact.{blank_crossfall, point_of, point_at, total}
 use Rattle.road.specs.Rules.{point_before, misplaced, not_beyond}
 use Rattle.laws_of_acceptance.specs.Judging.{Keeps}

@@ -5,7 +5,8 @@ use Rattle.file_numbers.specs.Reading.{Got, got, refused, and_then, Reading, ◌
 use Rattle.file_numbers.specs.Number.{Groups, groups, sound, checked_from, number_from, number, signed_of}
 use Rattle.road.specs.File.{Road, fitting, field, date, number_is, dated_fields, contract_fields, signed, between, in_size, radius, element, half, tangent, point, head_fields, plan_fields, profile_fields, crossfall_fields, fields, ended, read}
 use Rattle.days.specs.Day.{is_day}
-use Rattle.road.specs.Limits.{Limits, limits}
+use Rattle.road.specs.Limits.{limits}
+use Rattle.road.specs.declared.Limits.{Limits}
 use Rattle.road.specs.Rules.{Verdict, passes, breaks, road_test, order, judged, under, accepted}
 use Rattle.laws_of_acceptance.specs.Judging.{Keeps, rule_at, Broken, passes_kept, kept-passes, kept_by_name, judge-broken, broken-judge}
 use Rattle.laws_of_lists.specs.Tests.{and_T, or_T}

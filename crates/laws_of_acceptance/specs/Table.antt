@@ -5,7 +5,8 @@ use Rattle.std.proofs.Common.{arith, leb→le, ltb→lt}
 use Rattle.road.specs.File.{Road}
 use Rattle.laws_of_lists.specs.Each.{all, each, each_below}
 use Rattle.laws_of_lists.specs.Tests.{and_T}
-use Rattle.road.specs.Limits.{Limits, speeds, speed, table, cell, limits_at, limits_of, limits}
+use Rattle.road.specs.Limits.{speeds, speed, table, cell, limits_at, limits_of, limits}
+use Rattle.road.specs.declared.Limits.{Limits}
 use Rattle.laws_of_acceptance.specs.Ranged.{Within}
 
 speed_most : (class terrain : ℕ) → speed class terrain ≤ 100

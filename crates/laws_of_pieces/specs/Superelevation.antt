@@ -14,7 +14,8 @@ use Rattle.integers.specs.Fraction.{whole, ◌≈ᶠ◌}
 use Rattle.integers.specs.Values.{cancel, same-value, other_way, ◌then◌}
 use Rattle.road.specs.Base.{first_that}
 use Rattle.road.specs.File.{Road}
-use Rattle.road.specs.Limits.{Limits, limits, no_rule, ruled}
+use Rattle.road.specs.Limits.{limits, no_rule, ruled}
+use Rattle.road.specs.declared.Limits.{Limits}
 use Rattle.road.specs.Exact.{element_of, is_arc, element_start, total, point_of, point_at, Side, left, right, crossfall_of, crossfall_by, crossfall, from◌to◌}
 use Rattle.road.specs.Rules.{eq_z, changes, meets, changes_between, changes_on, inner, superelevated, crowned, allowed, wrong_superelevation}
 use Rattle.laws_of_search.specs.Searches.{first-none, first-clear}

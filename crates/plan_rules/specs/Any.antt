@@ -1,8 +1,9 @@
 -- The rules of an element together: whether any of them is broken.
 use Rattle.std.specs.Prelude.{◌≡◌, Bool, false, ◌||◌}
 use Rattle.laws_of_lists.specs.Tests.{or_left, or_right}
-use Rattle.road.specs.Limits.{Limits}
-use Rattle.road.specs.Rules.{ElementAmong, element_test}
+use Rattle.road.specs.declared.Limits.{Limits}
+use Rattle.road.specs.Rules.{element_test}
+use Rattle.road.specs.declared.ElementAmong.{ElementAmong}
 use Rattle.road.specs.declared.ElementRule.{ElementRule}
 use Rattle.road.specs.declared.ElementRule.TheVariants as element
 

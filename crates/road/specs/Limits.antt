@@ -1,7 +1,7 @@
 -- Document 01, "Speed and its row", with the rule book that request A.1 gives to the contract's date.
 use Rattle.std.specs.Prelude.{ℕ, ◌-◌, ◌/◌, List, [], ◌∷◌, Bool, true, false, not, get_or, ltb, eqb}
 use Rattle.road.specs.File.{Road}
-pub use Rattle.road.specs.declared.Limits.{Limits}
+use Rattle.road.specs.declared.Limits.{Limits}
 use Rattle.road.specs.declared.Contract.{Contract}
 use Rattle.road.specs.declared.Contract.TheVariants.{Undated, Dated}
 use Rattle.road.specs.declared.LeastClothoid.{LeastClothoid}

@@ -5,16 +5,17 @@ use Rattle.std.specs.Int.Signed.{lt_z}
 use Rattle.file_numbers.specs.Reading.{Got, got, refused, and_then}
 use Rattle.road.specs.Base.{first_that}
 use Rattle.road.specs.File.{Road, read}
-use Rattle.road.specs.Limits.{Limits, limits, ruled}
+use Rattle.road.specs.Limits.{limits, ruled}
+use Rattle.road.specs.declared.Limits.{Limits}
 use Rattle.road.specs.Exact.{blank_element, blank_crossfall, element_of, tangent_of, tangent_before, point_of, is_straight, is_arc, is_clothoid, element_start, tangent_start, total, point_at, Side, left, right, crossfall_of}
 use Rattle.road.specs.declared.LeastClothoid.{LeastClothoid}
 use Rattle.road.specs.declared.LeastClothoid.TheVariants.{Parameter, Length}
 use Rattle.road.specs.declared.Element.{Element}
 use Rattle.road.specs.declared.Tangent.{Tangent}
 use Rattle.road.specs.declared.Crossfall.{Crossfall}
-pub use Rattle.road.specs.declared.ElementAmong.{ElementAmong}
-pub use Rattle.road.specs.declared.TangentAmong.{TangentAmong}
-pub use Rattle.road.specs.declared.PointAmong.{PointAmong}
+use Rattle.road.specs.declared.ElementAmong.{ElementAmong}
+use Rattle.road.specs.declared.TangentAmong.{TangentAmong}
+use Rattle.road.specs.declared.PointAmong.{PointAmong}
 use Rattle.road.specs.declared.ElementRule.{ElementRule}
 use Rattle.road.specs.declared.ElementRule.TheVariants as element
 use Rattle.road.specs.declared.TangentRule.{TangentRule}

@@ -11,7 +11,7 @@ use Rattle.std.proofs.Math.ListN.{length, get_or-eq_default}
 use Rattle.std.proofs.Math.Dec.{ltb}
 use Rattle.road.specs.Base.{first_that, last_that, sum_of}
 use Rattle.road.specs.File.{Road}
-use Rattle.road.specs.Limits.{Limits}
+use Rattle.road.specs.declared.Limits.{Limits}
 use Rattle.road.specs.Exact.{blank_crossfall, element_of, point_of, element_start, point_at, is_arc}
 use Rattle.road.specs.Rules.{changes, changes_between, changes_on, allowed, wrong_superelevation}
 use Rattle.laws_of_search.specs.Searches.{first-none, first-clear}

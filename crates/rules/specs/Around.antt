@@ -5,9 +5,12 @@ use Rattle.std.proofs.Common.{sym, ◌∙◌, arith, add-one}
 use Rattle.std.proofs.Math.Path.{ap}
 use Rattle.road.specs.Base.{first_that, sum_of}
 use Rattle.road.specs.File.{Road}
-use Rattle.road.specs.Limits.{Limits}
+use Rattle.road.specs.declared.Limits.{Limits}
 use Rattle.road.specs.Exact.{blank_element, element_of, tangent_of, point_of, element_start, total, tangent_before}
-use Rattle.road.specs.Rules.{ElementAmong, TangentAmong, PointAmong, element_test, road_test, first_broken, element_earlier, element_before, element_among, tangent_among, point_before, point_among}
+use Rattle.road.specs.Rules.{element_test, road_test, first_broken, element_earlier, element_before, element_among, tangent_among, point_before, point_among}
+use Rattle.road.specs.declared.ElementAmong.{ElementAmong}
+use Rattle.road.specs.declared.TangentAmong.{TangentAmong}
+use Rattle.road.specs.declared.PointAmong.{PointAmong}
 use Rattle.laws_of_acceptance.specs.Lists.{element-step, Sums, sums_start, sums_on}
 use Rattle.road.specs.declared.Element.{Element}
 use Rattle.road.specs.declared.Tangent.{Tangent}

@@ -4,9 +4,10 @@ use Rattle.std.proofs.Common.{sym, ap, ◌∙◌, arith, add-one}
 use Rattle.std.proofs.Math.Decide.{ℕ_discrete}
 use Rattle.road.specs.Base.{sum_of}
 use Rattle.road.specs.File.{Road}
-use Rattle.road.specs.Limits.{Limits}
+use Rattle.road.specs.declared.Limits.{Limits}
 use Rattle.road.specs.Exact.{blank_element, element_of, element_start}
-use Rattle.road.specs.Rules.{ElementAmong, element_test, element_earlier, element_before, element_among}
+use Rattle.road.specs.Rules.{element_test, element_earlier, element_before, element_among}
+use Rattle.road.specs.declared.ElementAmong.{ElementAmong}
 use Rattle.laws_of_acceptance.specs.Judging.{Keeps}
 use Rattle.laws_of_acceptance.specs.Lists.{element-step, Sums, sums_start, sums_on}
 use Rattle.road.specs.declared.Element.{Element}

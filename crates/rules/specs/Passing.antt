@@ -3,7 +3,7 @@ use Rattle.std.specs.Prelude.{◌≡◌, refl, Bool, true, false, ◌&&◌, ℕ,
 use Rattle.std.proofs.Common.{sym, ap, ◌∙◌, arith, add-one, ltb-true, leb-true, leb-false, lt-ltb}
 use Rattle.road.specs.Base.{first_that, sum_of}
 use Rattle.road.specs.File.{Road}
-use Rattle.road.specs.Limits.{Limits}
+use Rattle.road.specs.declared.Limits.{Limits}
 use Rattle.road.specs.Exact.{element_of, point_of, element_start}
 use Rattle.road.specs.Rules.{wrong_superelevation}
 use Rattle.laws_of_acceptance.specs.Lists.{element-step, Sums, sums_start, sums_on}

@@ -5,7 +5,7 @@ use Rattle.std.proofs.lemmas.List.{reverse-append}
 use Rattle.std.proofs.Math.Decide.{dec_lt}
 use Rattle.std.proofs.Math.ListN.{get_or-eq_default}
 use Rattle.road.specs.File.{Road}
-use Rattle.road.specs.Limits.{Limits}
+use Rattle.road.specs.declared.Limits.{Limits}
 use Rattle.road.specs.Exact.{blank_element, element_of, is_straight, is_arc}
 use Rattle.road.specs.Rules.{first_arc, arc_before, arc_after, short_straight}
 use Rattle.laws_of_acceptance.specs.PlanOrder.{PlanOrder, BendBefore, Stands}

@@ -6,7 +6,7 @@ use native.Mathlib.Omega.{arith}
 use Rattle.std.proofs.Math.Decide.{ℕ_discrete}
 use Rattle.std.proofs.Math.ListN.{length}
 use Rattle.road.specs.File.{Road}
-use Rattle.road.specs.Limits.{Limits}
+use Rattle.road.specs.declared.Limits.{Limits}
 use Rattle.road.specs.Rules.{passes, breaks, road_test, order, first_broken, judge, judged}
 use Rattle.laws_of_acceptance.specs.Judging.{Keeps, rule_at, KeptBefore, Tried, none_keeps, judge-next, judge-stop}
 use Rattle.road.specs.declared.Rule.{Rule}

@@ -3,7 +3,7 @@ use Rattle.std.specs.Prelude.{◌≡◌, Bool, ℕ, Option, None, Some}
 use Rattle.std.proofs.Math.Path.{refl, ap, ap₂}
 use mathlib.Core.List.{List, [], ◌∷◌, map}
 use Rattle.road.specs.File.{Road}
-use Rattle.road.specs.Limits.{Limits}
+use Rattle.road.specs.declared.Limits.{Limits}
 use Rattle.road.specs.Exact.{element_start, tangent_start, total, point_at}
 use Rattle.road.specs.Rules.{Verdict, breaks, other_total, changes_on, wrong_superelevation, road_test, order, first_broken, judge, judged}
 use Rattle.road.specs.declared.Rule.{Rule}

@@ -2,7 +2,8 @@
 use Rattle.std.specs.Prelude.{ℕ, ◌+◌, ◌*◌, Bool, true, false, List, [], ◌∷◌, map, if◌then◌else◌}
 use Rattle.file_numbers.specs.Reading.{Got, got, refused}
 use Rattle.road.specs.File.{Road, read}
-use Rattle.road.specs.Limits.{Limits, limits_at}
+use Rattle.road.specs.Limits.{limits_at}
+use Rattle.road.specs.declared.Limits.{Limits}
 use Rattle.road.specs.Rules.{Verdict, passes, breaks, judged}
 use Rattle.speed_marks.specs.declared.MarksAnswer.{MarksAnswer}
 use Rattle.speed_marks.specs.declared.MarksAnswer.TheVariants as answer

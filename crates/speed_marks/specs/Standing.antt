@@ -3,7 +3,8 @@ use Rattle.std.specs.Prelude.{◌≡◌, refl, ◌↔◌, ℕ, zero, suc, ◌+�
 use Rattle.std.proofs.Common.{sym, ap, ◌∙◌, arith, ltb→lt, eqb→eq}
 use Rattle.file_numbers.specs.Reading.{Got, got, refused}
 use Rattle.road.specs.File.{Road, read}
-use Rattle.road.specs.Limits.{Limits, speeds, speed, limits_of, limits}
+use Rattle.road.specs.Limits.{speeds, speed, limits_of, limits}
+use Rattle.road.specs.declared.Limits.{Limits}
 use Rattle.road.specs.Rules.{Verdict, passes, breaks, order, judged, accepted}
 use Rattle.road.specs.declared.Rule.{Rule}
 use Rattle.laws_of_lists.specs.Each.{all, each_below}

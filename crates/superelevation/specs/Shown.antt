@@ -1,6 +1,6 @@
 -- Refusal 19, as far as a crossfall point and the next show it: the crossfall at an arc's start is that of the last point at or before it.
 use Rattle.std.specs.Prelude.{ℕ, Bool, false, not, ◌&&◌, ◌||◌, leb, if◌then◌else◌}
-use Rattle.road.specs.Limits.{Limits}
+use Rattle.road.specs.declared.Limits.{Limits}
 use Rattle.road.specs.Exact.{is_arc}
 use Rattle.road.specs.Rules.{changes_between, allowed}
 use Rattle.road.specs.declared.Element.{Element}

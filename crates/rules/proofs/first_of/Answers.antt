@@ -1,7 +1,7 @@
 -- Each case of a rule's name is the search of its list; rules 9 and 19 take the plan's and the points' order from the rules before.
 use Rattle.std.proofs.Common.{◌≡◌, subst}
 use Rattle.road.specs.Held.{road_in}
-use Rattle.road.specs.Limits.{Limits}
+use Rattle.road.specs.declared.Limits.{Limits}
 use Rattle.road.specs.File.{Road}
 use Rattle.laws_of_acceptance.specs.PlanOrder.{PlanOrder, plan-order}
 use Rattle.laws_of_acceptance.specs.PointOrder.{PointOrder, point-order}

@@ -3,7 +3,8 @@ use Rattle.std.specs.Prelude.{◌≡◌, refl, length, get_or}
 use Rattle.std.proofs.Common.{sym, ap, ◌∙◌, inl, inr, arith, rules}
 use Rattle.road.specs.Exact.{blank_crossfall, point_of}
 use Rattle.road.specs.Held.{road_in}
-use Rattle.road.specs.Rules.{PointAmong, point_test, point_among}
+use Rattle.road.specs.Rules.{point_test, point_among}
+use Rattle.road.specs.declared.PointAmong.{PointAmong}
 use Rattle.laws_of_acceptance.specs.Lists.{unmapped, point-item, point-count, next_or}
 use Rattle.limits.specs.Row.{as_limits}
 use Rattle.rules.specs.Search.{start}

@@ -3,7 +3,8 @@ use Rattle.std.specs.Prelude.{◌≡◌, refl, length, get_or}
 use Rattle.std.proofs.Common.{sym, ap, ◌∙◌, inl, inr, arith, rules}
 use Rattle.road.specs.Exact.{blank_tangent, tangent_of}
 use Rattle.road.specs.Held.{road_in}
-use Rattle.road.specs.Rules.{TangentAmong, tangent_test, tangent_among}
+use Rattle.road.specs.Rules.{tangent_test, tangent_among}
+use Rattle.road.specs.declared.TangentAmong.{TangentAmong}
 use Rattle.laws_of_acceptance.specs.Lists.{unmapped, tangent-item, tangent-count, next_or}
 use Rattle.limits.specs.Row.{as_limits}
 use Rattle.rules.specs.Search.{start}

@@ -1,0 +1,70 @@
+// An accepted road: its alignment, and what every caller asks of it, the lane width and T.
+
+#![tactic(auto)]
+
+ghost use Rattle.std.specs.Prelude.{◌≡◌};
+ghost use Rattle.road.specs.Exact.{total};
+ghost use Rattle.road.specs.Lane.{lane_width};
+ghost use Rattle.laws_of_acceptance.specs.Guaranteed.{Guaranteed};
+
+use road::Alignment;
+use std::marker::Model;
+
+// Contracts see the road; that it keeps the rules and the limits is a fact of every value.
+#[derive(Drop)]
+pub struct AcceptedRoad {
+    alignment: Alignment,
+    lane: u32,
+    total: u64,
+}
+
+impl Model for AcceptedRoad {
+    ghost use Rattle.road.specs.File.{Road};
+
+    ghost Value = { Road };
+
+    ghost use Rattle.accepted_road.specs.Kept.{Kept};
+
+    ghost view = { λ v. v.alignment };
+
+    ghost invariant = { Kept };
+}
+
+impl AcceptedRoad {
+    // The road of an alignment that keeps the rules and the limits, with its lane width and its T.
+    pub fn new(alignment: Alignment, lane: u32, whole: u64) -> Self
+        requires guaranteed { Guaranteed alignment }
+        requires lane_is { lane ≡ lane_width alignment }
+        requires total_is { whole ≡ total alignment }
+        ensures { result ≡ alignment }
+    {
+        AcceptedRoad {
+            alignment,
+            lane,
+            total: whole,
+        }
+    }
+
+    pub fn alignment(&self) -> &Alignment
+        ensures road { result.now ≡ self.now }
+        ensures guaranteed { Guaranteed self.now }
+    {
+        &self.alignment
+    }
+
+    // The lane width.
+    pub fn lane(&self) -> u32
+        ensures lane { result ≡ lane_width self.now }
+        ensures guaranteed { Guaranteed self.now }
+    {
+        self.lane
+    }
+
+    // T.
+    pub fn total(&self) -> u64
+        ensures total { result ≡ total self.now }
+        ensures guaranteed { Guaranteed self.now }
+    {
+        self.total
+    }
+}
