@@ -2,43 +2,58 @@
 
 #![tactic(auto)]
 
-ghost use Rattle.std.specs.Prelude.{◌≡◌, true, ℕ, ◌≤◌, length, take};
-ghost use Rattle.std.specs.Io.KnownBytes.{Appends, Consumes};
+ghost use Rattle.std.specs.Prelude.{◌≡◌, ℕ, ◌<◌, ◌≤◌, length, take, OnOk};
+ghost use Rattle.std.specs.Io.KnownBytes.{Appends, Consumes, IsAtEnd};
+ghost use Rattle.streams.specs.Count.{count_of};
 
-use std::io::{Read, Write};
+use std::io;
+use std::io::{ErrorKind, Read, Write};
 
-// Writes all of some bytes, or stops at the first write that takes none or fails; whether all were written. What was written is their beginning.
-pub fn write_whole<W: Write>(writer: &mut W, bytes: &[u8]) -> bool
-    ensures whole { result ≡ true → Appends (W.contents writer.old) (W.contents writer.new) bytes.now }
-    ensures beginning { (n : ℕ) × (n ≤ length bytes.now) × Appends (W.contents writer.old) (W.contents writer.new) (take n bytes.now) }
-{
-    let mut done: usize = 0;
-    while done < bytes.len() {
-        let Ok(count) = writer.write(&bytes[done..]) else {
-            return false;
-        };
-        if count == 0 {
-            return false;
-        }
-        done += count;
-    }
-    true
+// A read that failed, and how many bytes the reads before it gave.
+#[derive(Clone, Copy, Debug)]
+pub struct ReadFailed {
+    pub count: usize,
 }
 
-// Reads until the buffer is full, the input ends or a read fails; how many bytes stand at the buffer's start, those that the reader had first.
+// Writes all of some bytes, or stops at the first write that fails or takes none. What was written is their beginning: of that `write_all` says nothing after an error.
+pub fn write_whole<W: Write>(writer: &mut W, bytes: &[u8]) -> io::Result<()>
+    ensures whole { OnOk result (Appends (W.contents writer.old) (W.contents writer.new) bytes.now) }
+    ensures beginning { (n : ℕ) × (n ≤ length bytes.now) × Appends (W.contents writer.old) (W.contents writer.new) (take n bytes.now) }
+{
+    let mut done = 0;
+    while done < bytes.len() {
+        match writer.write(&bytes[done..])? {
+            0 => return Err(ErrorKind::WriteZero.into()),
+            count => done += count,
+        }
+    }
+    Ok(())
+}
+
+// Reads until the buffer is full or the input ends, or stops at the first read that fails; how many bytes then stand at the buffer's start, those that the reader had first.
+pub fn fill<R: Read>(reader: &mut R, buffer: &mut [u8]) -> Result<usize, ReadFailed>
+    ensures within { count_of result ≤ length buffer.new }
+    ensures first { Consumes (R.remaining reader.old) (R.remaining reader.new) (take (count_of result) buffer.new) }
+    ensures all { OnOk result (count_of result < length buffer.new → IsAtEnd (R.remaining reader.new)) }
+{
+    let mut count = 0;
+    while count < buffer.len() {
+        match reader.read(&mut buffer[count..]) {
+            Ok(0) => break,
+            Ok(more) => count += more,
+            Err(_) => return Err(ReadFailed { count }),
+        }
+    }
+    Ok(count)
+}
+
+// The same, where a read that fails ends the input.
 pub fn read_full<R: Read>(reader: &mut R, buffer: &mut [u8]) -> usize
     ensures within { result ≤ length buffer.new }
     ensures first { Consumes (R.remaining reader.old) (R.remaining reader.new) (take result buffer.new) }
 {
-    let mut done: usize = 0;
-    while done < buffer.len() {
-        let Ok(count) = reader.read(&mut buffer[done..]) else {
-            return done;
-        };
-        if count == 0 {
-            return done;
-        }
-        done += count;
+    match fill(reader, buffer) {
+        Ok(count) => count,
+        Err(failed) => failed.count,
     }
-    done
 }

@@ -11,4 +11,4 @@ joined done n bytes = ap (λ rest. take done bytes ++ take n rest) (take_rest by
 
 pub loop-done-preserved : goal.loop-done-preserved
 loop-done-preserved g c =
-    (search rules, subst (Appends _ _) (joined c.loop-done.done c.in-Ok.count c.args.bytes.now) (Appends-trans _ _ _ _ _ c.loop-done.invariant.1 c.in-Ok.ensures.bytes))
+    (search rules, subst (Appends _ _) (joined c.loop-done.done c.in_ok-count.count c.args.bytes.now) (Appends-trans _ _ _ _ _ c.loop-done.invariant.1 c.in_ok-count.ensures.bytes))
