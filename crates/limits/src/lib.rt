@@ -2,11 +2,10 @@
 
 #![tactic(auto)]
 
-ghost use Rattle.std.specs.Prelude.{◌≡◌, ◌<◌};
+ghost use Rattle.std.specs.Prelude.{◌≡◌, ℕ, ◌<◌, slice_index};
 ghost use Rattle.road.specs.Limits.{speed, table, handbook, cell, is_old, radius_min_at, clothoid_at, limits_at, limits_of};
-ghost use Rattle.limits.specs.Row.{as_limits};
 
-use road::{Contract, Head, LeastClothoid};
+use road::{Contract, Head, LeastClothoid, Limits};
 
 // The mark for "-", "no such rule".
 pub const NO_RULE: u32 = 4294967295;
@@ -60,86 +59,55 @@ pub const CROSSFALL_MAX: u32 = 70000;
 
 pub const CROWN: u32 = 25000;
 
-#[derive(Clone, Copy)]
-pub struct Limits {
-    pub straight_max: u32,
-    pub straight_min: u32,
-    pub radius_min: u32,
-    pub radius_both: u32,
-    pub clothoid: LeastClothoid,
-    pub arc_min: u32,
-    pub grade_max: u32,
-    pub sag_radius: u32,
-    pub crest_radius: u32,
-    pub lane: u32,
-    pub crossfall_min: u32,
-    pub crossfall_max: u32,
-    pub crown: u32,
-}
-
-// A cell of the row of a speed; past the rows it is 0. It alone reads the table: each place that reads a constant table has a copy of it on its stack.
-fn cell(speed: u32, column: usize) -> u32
-    requires { column < 10 }
-    ensures { result ≡ cell table speed column }
+// The row of a speed; past the rows it is zeros.
+fn row_of<const COLUMNS: usize>(rows: &[[u32; COLUMNS]], speed: u32) -> [u32; COLUMNS]
+    ensures { (column : ℕ) → column < COLUMNS → slice_index result column ≡ cell rows.now speed column }
 {
-    let row = (sizes::above(speed, 40) / 10) as usize;
-    if row < 7 { LIMITS[row][column] } else { 0 }
-}
-
-// The same of the old handbook.
-fn handbook_cell(speed: u32, column: usize) -> u32
-    requires { column < 2 }
-    ensures { result ≡ cell handbook speed column }
-{
-    let row = (sizes::above(speed, 40) / 10) as usize;
-    if row < 7 { HANDBOOK[row][column] } else { 0 }
+    let row = (speed.saturating_sub(40) / 10) as usize;
+    rows.get(row).copied().unwrap_or([0; COLUMNS])
 }
 
 // Whether a contract is under the old handbook.
 fn is_old(contract: Contract) -> bool
     ensures { result ≡ is_old contract }
 {
-    match contract {
-        Contract::Undated => false,
-        Contract::Dated(day) => day < IN_FORCE_FROM,
-    }
-}
-
-fn radius_min_at(speed: u32, old: bool) -> u32
-    ensures { result ≡ radius_min_at speed old }
-{
-    if old {
-        return handbook_cell(speed, 0);
-    }
-    cell(speed, 2)
-}
-
-fn clothoid_at(speed: u32, old: bool) -> LeastClothoid
-    ensures { result ≡ clothoid_at speed old }
-{
-    if old {
-        return LeastClothoid::Length(handbook_cell(speed, 1));
-    }
-    LeastClothoid::Parameter(cell(speed, 4))
+    matches!(contract, Contract::Dated(day) if day < IN_FORCE_FROM)
 }
 
 // The limits at a speed under a contract.
+#[tactic(auto, unfolding(road::specs::Limits::radius_min_at, road::specs::Limits::clothoid_at, road::specs::Limits::limits_at))]
 pub fn limits_at(speed: u32, contract: Contract) -> Limits
-    ensures { as_limits result ≡ limits_at speed contract }
+    ensures { result ≡ limits_at speed contract }
 {
+    let [
+        straight_max,
+        straight_min,
+        radius_min,
+        radius_both,
+        parameter,
+        arc_min,
+        grade_max,
+        sag_radius,
+        crest_radius,
+        lane,
+    ] = row_of(&LIMITS, speed);
+    let [old_radius_min, clothoid_length] = row_of(&HANDBOOK, speed);
     let old = is_old(contract);
-    let clothoid = clothoid_at(speed, old);
     Limits {
-        straight_max: cell(speed, 0),
-        straight_min: cell(speed, 1),
-        radius_min: radius_min_at(speed, old),
-        radius_both: cell(speed, 3),
-        clothoid,
-        arc_min: cell(speed, 5),
-        grade_max: cell(speed, 6),
-        sag_radius: cell(speed, 7),
-        crest_radius: cell(speed, 8),
-        lane: cell(speed, 9),
+        straight_max,
+        straight_min,
+        radius_min: if old { old_radius_min } else { radius_min },
+        radius_both,
+        clothoid: if old {
+            LeastClothoid::Length(clothoid_length)
+        } else {
+            LeastClothoid::Parameter(parameter)
+        },
+        arc_min,
+        grade_max,
+        sag_radius,
+        crest_radius,
+        lane,
         crossfall_min: CROSSFALL_MIN,
         crossfall_max: CROSSFALL_MAX,
         crown: CROWN,
@@ -150,8 +118,8 @@ pub fn limits_at(speed: u32, contract: Contract) -> Limits
 pub fn speed_of(class: u32, terrain: u32) -> u32
     ensures { result ≡ speed class terrain }
 {
-    let row = sizes::above(class, 1) as usize;
-    let column = sizes::above(terrain, 1) as usize;
+    let row = class.saturating_sub(1) as usize;
+    let column = terrain.saturating_sub(1) as usize;
     if row < 4 {
         if column < 3 { SPEEDS[row][column] } else { 0 }
     } else {
@@ -160,9 +128,9 @@ pub fn speed_of(class: u32, terrain: u32) -> u32
 }
 
 // The limits of a road, from its head.
+#[tactic(auto, unfolding(road::specs::Limits::limits_of))]
 pub fn limits_of(head: Head) -> Limits
-    ensures { as_limits result ≡ limits_of head }
+    ensures { result ≡ limits_of head }
 {
-    let contract = head.contract;
-    limits_at(speed_of(head.class, head.terrain), contract)
+    limits_at(speed_of(head.class, head.terrain), head.contract)
 }
