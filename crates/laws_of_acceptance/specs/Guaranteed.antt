@@ -4,6 +4,7 @@ use Rattle.std.proofs.Common.{arith}
 use Rattle.file_numbers.specs.Reading.{got}
 use Rattle.road.specs.File.{Road}
 use Rattle.road.specs.Exact.{element_of, tangent_of, point_of, is_arc, element_start, tangent_start, total, vertex_count, vertex, half_length, Side, crossfall_of}
+use Rattle.road.specs.declared.Kind.TheVariants.{Arc, Clothoid}
 use Rattle.road.specs.Lane.{lane_width}
 use Rattle.road.specs.Rules.{accepted}
 use Rattle.laws_of_acceptance.specs.PlanOrder.{Stands, PlanOrder}
@@ -22,8 +23,6 @@ pub record Guaranteed (r : Road) : Type 0 where
   -- tangents add up to T, points ascend from 0 to T, curves lie inside their tangents
   pub facts_of : Facts r
   -- the head
-  pub class : Within 1 4 r.head.class
-  pub terrain : Within 1 3 r.head.terrain
   pub step : Within 1000 100000 r.head.step
   pub ramp : Within 1 20000 r.head.ramp
   pub lane : Within 2750 3500 (lane_width r)
@@ -35,7 +34,7 @@ pub record Guaranteed (r : Road) : Type 0 where
   pub whole : Within 1 100000000 (total r)
   -- the plan: what follows a straight and an arc; the arcs beside an egg
   pub plan-order : PlanOrder r
-  pub egg : (i : ℕ) → Stands r 1 i → Stands r 2 (suc i) → Stands r 1 (suc (suc i)) → Egg (element_of r i).radius (element_of r (suc (suc i))).radius
+  pub egg : (i : ℕ) → Stands r Arc i → Stands r Clothoid (suc i) → Stands r Arc (suc (suc i)) → Egg (element_of r i).radius (element_of r (suc (suc i))).radius
   pub element-length : (i : ℕ) → i < length r.plan → Within 1 10000000 (element_of r i).length
   pub radius : (i : ℕ) → i < length r.plan → is_arc (element_of r i) ≡ true → Within 10000 10000000 (nat_abs (element_of r i).radius)
   pub element-start : (i : ℕ) → i ≤ length r.plan → element_start r i ≤ total r
@@ -63,8 +62,6 @@ both {r} A R =
     record {
       accepted_as = A;
       facts_of = F;
-      class = A.ranges.head.class;
-      terrain = A.ranges.head.terrain;
       step = A.ranges.head.step;
       ramp = A.ranges.head.ramp;
       lane = lane_range r;

@@ -1,5 +1,6 @@
 pub mod Judging
 pub mod PlanOrder
+pub mod OfKind
 pub mod Kinds
 pub mod PointOrder
 pub mod Ranged

@@ -10,6 +10,7 @@ use Rattle.road.specs.Rules.{same_turn, wrong_egg, wrong_link}
 use Rattle.laws_of_acceptance.specs.Judging.{Keeps}
 use Rattle.laws_of_acceptance.specs.PlanOrder.{Stands}
 use Rattle.laws_of_acceptance.specs.Positive.{Accepted}
+use Rattle.road.specs.declared.Kind.TheVariants.{Arc, Clothoid}
 use Rattle.road.specs.declared.Element.{Element}
 use Rattle.road.specs.declared.Rule.TheVariants as rule
 use Rattle.road.specs.declared.ElementRule.TheVariants as element
@@ -30,11 +31,11 @@ right-egg a b h =
     let n = no_four (eqb (nat_abs a) (nat_abs b)) (not (same_turn a b)) (ltb 1000000 (nat_abs a)) (ltb 1000000 (nat_abs b)) h in
     record { turn = not-false _ n.1; different = λ e. true_false _ (eq-eqb _ _ e) n.0; first-high = ltb-false _ _ n.2; second-high = ltb-false _ _ n.3 }
 
-egg_of : (a b e c : Element) → b.kind ≡ 1 → e.kind ≡ 2 → c.kind ≡ 1 → wrong_link a b e c ≡ false → wrong_egg b.radius c.radius ≡ false
+egg_of : (a b e c : Element) → b.kind ≡ Arc → e.kind ≡ Clothoid → c.kind ≡ Arc → wrong_link a b e c ≡ false → wrong_egg b.radius c.radius ≡ false
 unfolding wrong_link
 egg_of a b e c kb ke kc h = or_left (wrong_egg b.radius c.radius) false (rw (kb, ke, kc) at h)
 
-pair_of : (a b e c : Element) → a.kind ≡ 1 → b.kind ≡ 2 → e.kind ≡ 2 → c.kind ≡ 1 → wrong_link a b e c ≡ false → same_turn a.radius c.radius ≡ false
+pair_of : (a b e c : Element) → a.kind ≡ Arc → b.kind ≡ Clothoid → e.kind ≡ Clothoid → c.kind ≡ Arc → wrong_link a b e c ≡ false → same_turn a.radius c.radius ≡ false
 unfolding wrong_link
 pair_of a b e c ka kb ke kc h = rw (ka, kb, ke, kc) at h
 
@@ -43,9 +44,9 @@ module _ {r : Road} (A : Accepted r) where
   kept = A.kept (rule.Element element.LinkedArcs)
 
   -- "One clothoid may stand between two arcs of the same turn and different radii"
-  pub egg_arcs : (i : ℕ) → Stands r 1 i → Stands r 2 (suc i) → Stands r 1 (suc (suc i)) → Egg (element_of r i).radius (element_of r (suc (suc i))).radius
+  pub egg_arcs : (i : ℕ) → Stands r Arc i → Stands r Clothoid (suc i) → Stands r Arc (suc (suc i)) → Egg (element_of r i).radius (element_of r (suc (suc i))).radius
   egg_arcs i a c b = right-egg _ _ (egg_of _ (element_of r i) (element_of r (suc i)) (element_of r (suc (suc i))) a.is c.is b.is (kept (suc i) c.within))
 
   -- "Two clothoids may now follow one another between arcs of opposite turn"
-  pub pair_arcs : (i : ℕ) → Stands r 1 i → Stands r 2 (suc i) → Stands r 2 (suc (suc i)) → Stands r 1 (suc (suc (suc i))) → same_turn (element_of r i).radius (element_of r (suc (suc (suc i)))).radius ≡ false
+  pub pair_arcs : (i : ℕ) → Stands r Arc i → Stands r Clothoid (suc i) → Stands r Clothoid (suc (suc i)) → Stands r Arc (suc (suc (suc i))) → same_turn (element_of r i).radius (element_of r (suc (suc (suc i)))).radius ≡ false
   pair_arcs i a c d b = pair_of (element_of r i) (element_of r (suc i)) (element_of r (suc (suc i))) (element_of r (suc (suc (suc i)))) a.is c.is d.is b.is (kept (suc (suc i)) d.within)

@@ -1,5 +1,5 @@
 -- What holds of a road that was read: every number is in its range.
-use Rattle.std.specs.Prelude.{◌≡◌, refl, ℕ, zero, suc, ◌≤◌, Bool, true, false, ◌&&◌, List, [], ◌∷◌, length, T, leb, ltb, eqb, ℤ, pos, negsuc, nat_abs, if◌then◌else◌}
+use Rattle.std.specs.Prelude.{◌≡◌, refl, ℕ, zero, suc, ◌≤◌, Bool, true, false, ◌&&◌, List, [], ◌∷◌, length, T, leb, ltb, ℤ, pos, negsuc, nat_abs, if◌then◌else◌}
 use Rattle.std.proofs.Common.{sym, ap, ◌∙◌, subst, arith, leb→le}
 use Rattle.file_numbers.specs.Reading.{Got, got, refused, and_then, Reading}
 use Rattle.file_numbers.specs.Reading.{many}
@@ -9,7 +9,7 @@ use Rattle.road.specs.Exact.{is_arc}
 use Rattle.file_numbers.specs.Refused.{refused_not_got}
 use Rattle.file_numbers.specs.Number.{number}
 use Rattle.days.specs.Day.{is_day}
-use Rattle.road.specs.File.{Road, fitting, field, date, number_is, dated_fields, contract_fields, signed, between, in_size, radius, element, half, tangent, point, head_fields, plan_fields, Profile, profile_fields, crossfall_fields, road_of, fields, ended, read}
+use Rattle.road.specs.File.{Road, fitting, field, choice, kind_of, arc_kind, class_of, terrain_of, date, number_is, dated_fields, contract_fields, signed, between, in_size, radius, element, half, tangent, point, head_fields, plan_fields, Profile, profile_fields, crossfall_fields, road_of, fields, ended, read}
 use Rattle.file_numbers.specs.Number.{signed_of}
 use Rattle.road.specs.declared.Contract.{Contract}
 use Rattle.road.specs.declared.Contract.TheVariants.{Undated, Dated}
@@ -86,19 +86,18 @@ other-radius true s at e q = absurd (true_false true refl q)
 other-radius false s at e q = cc
 
 pub record ElementRange (e : Element) : Type 0 where
-  pub kind : Within 0 2 e.kind
   pub length : Within 1 10_000_000 e.length
   pub radius : RadiusRange e
 
 pub element_range : (s : List ℕ) (at : ℕ) {e : Element} {next : ℕ} → element s at ≡ got e next → ElementRange e
 unfolding element
 element_range s at {e} h =
-    let a = went (field 0 2 s at) _ h in
+    let a = went (choice 0 2 kind_of s at) _ h in
     let b = went (field 1 10_000_000 s a.next) _ a.rest in
-    let c = went (radius (eqb a.value 1) s b.next) _ b.rest in
+    let c = went (radius (arc_kind a.value) s b.next) _ b.rest in
     let f = c.rest in
     let q : record { kind = a.value; length = b.value; radius = c.value } ≡ e = cc in
-    subst ElementRange q (record { kind = field-within 0 2 s at a.first; length = field-within 1 10_000_000 s a.next b.first; radius = record { arc = arc-radius (eqb a.value 1) s b.next c.first; other = other-radius (eqb a.value 1) s b.next c.first } })
+    subst ElementRange q (record { length = field-within 1 10_000_000 s a.next b.first; radius = record { arc = arc-radius (arc_kind a.value) s b.next c.first; other = other-radius (arc_kind a.value) s b.next c.first } })
 
 -- from low to high, as the tests of the reader have it
 abs_between : (n m : ℕ) (v : ℤ) → T (between (negsuc n) (pos m) v) → suc n ≤ m → nat_abs v ≤ m
@@ -181,8 +180,6 @@ contract_range s at {c} {next} e = go (number_is 9 s at) e
 
 pub record HeadRange (h : Head) : Type 0 where
   pub contract : ContractRange h.contract
-  pub class : Within 1 4 h.class
-  pub terrain : Within 1 3 h.terrain
   pub step : Within 1000 100_000 h.step
   pub ramp : Within 1 20_000 h.ramp
 
@@ -190,12 +187,12 @@ head_range : (s : List ℕ) (at : ℕ) (h : Head) (next : ℕ) → head_fields s
 unfolding head_fields
 head_range s at h next e =
     on (contract_fields s at) _ e λ contract z ez h0.
-    on (field 1 4 s z) _ h0 λ class a ea h1.
-    on (field 1 3 s a) _ h1 λ terrain b eb h2.
+    on (choice 1 4 class_of s z) _ h0 λ class a ea h1.
+    on (choice 1 3 terrain_of s a) _ h1 λ terrain b eb h2.
     on (field 1000 100_000 s b) _ h2 λ step c ec h3.
     on (field 1 20_000 s c) _ h3 λ ramp d ed h4.
     let same : record { contract = contract; class = class; terrain = terrain; step = step; ramp = ramp } ≡ h = cc in
-    subst HeadRange same (record { contract = contract_range s at ez; class = field-within 1 4 s z ea; terrain = field-within 1 3 s a eb; step = field-within 1000 100_000 s b ec; ramp = field-within 1 20_000 s c ed })
+    subst HeadRange same (record { contract = contract_range s at ez; step = field-within 1000 100_000 s b ec; ramp = field-within 1 20_000 s c ed })
 
 -- a count in its range, and as many items
 pub record Counted {A : Type 0} (P : A → Type 0) (low high : ℕ) (l : List A) : Type 0 where

@@ -3,7 +3,7 @@ use Rattle.std.specs.Prelude.{◌≡◌, refl, Bool, true, false, ◌&&◌, ◌|
 use Rattle.std.proofs.Common.{sym, ap, ◌∙◌, subst, inl, inr, arith, leb→le, eqb→eq}
 use Rattle.file_numbers.specs.Reading.{Got, got, refused, and_then, Reading, ◌>>=◌, give, many}
 use Rattle.file_numbers.specs.Number.{Groups, groups, sound, checked_from, number_from, number, signed_of}
-use Rattle.road.specs.File.{Road, fitting, field, date, number_is, dated_fields, contract_fields, signed, between, in_size, radius, element, half, tangent, point, head_fields, plan_fields, profile_fields, crossfall_fields, fields, ended, read}
+use Rattle.road.specs.File.{Road, fitting, field, choice, kind_of, arc_kind, class_of, terrain_of, date, number_is, dated_fields, contract_fields, signed, between, in_size, radius, element, half, tangent, point, head_fields, plan_fields, profile_fields, crossfall_fields, fields, ended, read}
 use Rattle.days.specs.Day.{is_day}
 use Rattle.road.specs.Limits.{limits}
 use Rattle.road.specs.declared.Limits.{Limits}
@@ -153,6 +153,10 @@ faulty_field : (low high : ℕ) → Faulty (field low high)
 unfolding field
 faulty_field low high = record { at_most = λ s at. faulty_after (number s at) _ (faulty_number.at_most s at) (λ v next. faulty_range (λ n. leb low n && leb n high) v at s next) }
 
+faulty_choice : {A : Type 0} (low high : ℕ) (of : ℕ → A) → Faulty (choice low high of)
+unfolding choice
+faulty_choice low high of = faulty_bind (faulty_field low high) (λ n. faulty_give)
+
 faulty_signed : (fits : ℤ → Bool) → Faulty (signed fits)
 unfolding signed
 faulty_signed fits = record { at_most = λ s at. faulty_after (number s at) _ (faulty_number.at_most s at) (λ v next. faulty_range fits (signed_of v) at s next) }
@@ -173,8 +177,8 @@ faulty_half (suc k) = faulty_field 0 1000000
 faulty_fields : Faulty fields
 unfolding fields head_fields plan_fields profile_fields crossfall_fields element tangent point
 faulty_fields =
-    faulty_bind (faulty_bind faulty_contract (λ z. faulty_bind (faulty_field 1 4) (λ a. faulty_bind (faulty_field 1 3) (λ b. faulty_bind (faulty_field 1000 100000) (λ c. faulty_bind (faulty_field 1 20000) (λ d. faulty_give))))))
-    (λ head. faulty_bind (faulty_bind (faulty_field 1 200) (faulty_many (λ _. faulty_bind (faulty_field 0 2) (λ a. faulty_bind (faulty_field 1 10000000) (λ b. faulty_bind (faulty_radius (eqb a 1)) (λ c. faulty_give))))))
+    faulty_bind (faulty_bind faulty_contract (λ z. faulty_bind (faulty_choice 1 4 class_of) (λ a. faulty_bind (faulty_choice 1 3 terrain_of) (λ b. faulty_bind (faulty_field 1000 100000) (λ c. faulty_bind (faulty_field 1 20000) (λ d. faulty_give))))))
+    (λ head. faulty_bind (faulty_bind (faulty_field 1 200) (faulty_many (λ _. faulty_bind (faulty_choice 0 2 kind_of) (λ a. faulty_bind (faulty_field 1 10000000) (λ b. faulty_bind (faulty_radius (arc_kind a)) (λ c. faulty_give))))))
     (λ plan. faulty_bind (faulty_bind (faulty_signed (between (negsuc 499999) (pos 3000000))) (λ a. faulty_bind (faulty_field 1 100) (λ n. faulty_bind
     (faulty_many (λ k. faulty_bind (faulty_field 1 10000000) (λ a. faulty_bind (faulty_signed (between (negsuc 119999) (pos 120000))) (λ b. faulty_bind (faulty_half k) (λ c. faulty_give)))) n) (λ l. faulty_give))))
     (λ profile. faulty_bind (faulty_bind (faulty_field 2 200) (faulty_many (λ _. faulty_bind (faulty_field 0 100000000) (λ a. faulty_bind (faulty_signed (between (negsuc 79999) (pos 80000))) (λ b. faulty_bind (faulty_signed (between (negsuc 79999) (pos 80000))) (λ c. faulty_give))))))

@@ -5,15 +5,17 @@ use Rattle.std.proofs.Common.{arith, leb→le, ltb→lt}
 use Rattle.road.specs.File.{Road}
 use Rattle.laws_of_lists.specs.Each.{all, each, each_below}
 use Rattle.laws_of_lists.specs.Tests.{and_T}
-use Rattle.road.specs.Limits.{speeds, speed, table, cell, limits_at, limits_of, limits}
+use Rattle.road.specs.declared.Class.{Class}
+use Rattle.road.specs.declared.Terrain.{Terrain}
+use Rattle.road.specs.Limits.{speeds, class_row, terrain_column, speed, table, cell, limits_at, limits_of, limits}
 use Rattle.road.specs.declared.Limits.{Limits}
 use Rattle.laws_of_acceptance.specs.Ranged.{Within}
 
-speed_most : (class terrain : ℕ) → speed class terrain ≤ 100
+speed_most : (class : Class) (terrain : Terrain) → speed class terrain ≤ 100
 unfolding speed
 speed_most class terrain =
-    let v : ℕ = get_or (get_or speeds (class - 1) []) (terrain - 1) 0 in
-    leb→le v 100 (each (λ v. leb v 100) 0 (get_or speeds (class - 1) []) (each (all (λ v. leb v 100)) [] speeds tt tt (class - 1)) tt (terrain - 1))
+    let v : ℕ = get_or (get_or speeds (class_row class) []) (terrain_column terrain) 0 in
+    leb→le v 100 (each (λ v. leb v 100) 0 (get_or speeds (class_row class) []) (each (all (λ v. leb v 100)) [] speeds tt tt (class_row class)) tt (terrain_column terrain))
 
 -- what the laws above the table ask of a row, the same in both rule books
 pub record Sound (l : Limits) : Type 0 where

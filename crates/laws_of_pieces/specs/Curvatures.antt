@@ -1,18 +1,20 @@
 -- Curvature: at an element's end both elements have one curvature, and a clothoid runs evenly from 0 to its arc's, or back, or from one arc's to another's.
 use Rattle.std.specs.Prelude.{◌≡◌, Bool, [], ◌∷◌, ℕ, zero, suc, ◌*◌, ◌≤◌, ◌<◌, length, ℤ, pos, negsuc, nat_abs, ◌-ℤ◌, if◌then◌else◌}
 use Rattle.std.proofs.Math.Path.{refl, ap, ap₂}
-use Rattle.std.proofs.Common.{sym, ◌∙◌, eqb-true}
+use Rattle.std.proofs.Common.{sym, ◌∙◌}
 use Rattle.std.proofs.Math.Bool.{true, false}
 use native.Mathlib.Omega.{arith}
 use Rattle.std.proofs.Math.Decide.{dec_lt}
 use Rattle.std.proofs.Math.ListN.{get_or-eq_default}
-use Rattle.std.proofs.Math.Dec.{eqb}
 use Rattle.integers.specs.Ring.{◌:+◌, ◌:-◌, ◌:*◌, #, ring, $}
 use Rattle.integers.specs.Fraction.{Frac, ◌÷◌, whole, ◌+ᶠ◌, ◌-ᶠ◌, ◌×ᶠ◌, ◌≈ᶠ◌}
 use Rattle.integers.specs.Values.{positive-mul, same-value, other_way, ◌then◌}
-use Rattle.road.specs.File.{Road}
+use Rattle.road.specs.File.{Road, clothoid_kind}
+use Rattle.road.specs.declared.Kind.{Kind}
+use Rattle.road.specs.declared.Kind.TheVariants.{Straight, Arc, Clothoid}
 use Rattle.road.specs.Exact.{blank_element, element_of, element_start, element_at, is_straight, is_arc, is_clothoid, arc_curvature, end_curvature, start_curvature, clothoid_curvature, curvature_on, curvature, from◌to◌}
 use Rattle.road.specs.Rules.{element_before}
+use Rattle.laws_of_acceptance.specs.OfKind.{is-arc-kind, is-clothoid-kind}
 use Rattle.laws_of_acceptance.specs.PlanOrder.{Stands, PlanOrder}
 use Rattle.laws_of_acceptance.specs.Positive.{Accepted, plan_ordered}
 use Rattle.laws_of_acceptance.specs.Lists.{element-step}
@@ -70,17 +72,17 @@ evenly-out S u w L p_s p_l e = record {
 
 -- ---- an element by its kind
 module _ (r : Road) (i : ℕ) where
-  on-straight : (s : ℕ) → (element_of r i).kind ≡ 0 → curvature_on r i s ≡ whole (pos 0)
+  on-straight : (s : ℕ) → is_straight (element_of r i) ≡ true → curvature_on r i s ≡ whole (pos 0)
   unfolding curvature_on
-  on-straight s e = ap (λ (k : ℕ). if eqb k 0 then whole (pos 0) else (if eqb k 1 then arc_curvature (element_of r i).radius else clothoid_curvature r i s)) e
+  on-straight s e = rw e
 
-  on-arc : (s : ℕ) → (element_of r i).kind ≡ 1 → curvature_on r i s ≡ arc_curvature (element_of r i).radius
+  on-arc : (s : ℕ) → (element_of r i).kind ≡ Arc → curvature_on r i s ≡ arc_curvature (element_of r i).radius
   unfolding curvature_on
-  on-arc s e = ap (λ (k : ℕ). if eqb k 0 then whole (pos 0) else (if eqb k 1 then arc_curvature (element_of r i).radius else clothoid_curvature r i s)) e
+  on-arc s e = rw e
 
-  on-clothoid : (s : ℕ) → (element_of r i).kind ≡ 2 → curvature_on r i s ≡ clothoid_curvature r i s
+  on-clothoid : (s : ℕ) → (element_of r i).kind ≡ Clothoid → curvature_on r i s ≡ clothoid_curvature r i s
   unfolding curvature_on
-  on-clothoid s e = ap (λ (k : ℕ). if eqb k 0 then whole (pos 0) else (if eqb k 1 then arc_curvature (element_of r i).radius else clothoid_curvature r i s)) e
+  on-clothoid s e = rw e
 
   end_zero : is_arc (element_of r i) ≡ false → end_curvature r i ≡ whole (pos 0)
   unfolding end_curvature
@@ -159,36 +161,34 @@ module _ {r : Road} (A : Accepted r) where
       (ahead_by (element_start r i) s (element_of r i).length (e ∙ element-step r i))
 
   -- ---- where two elements meet: a clothoid has there what its neighbour gives
-  clothoid-before : (i s : ℕ) → suc i < length r.plan → s ≡ element_start r (suc i) → (element_of r i).kind ≡ 2 → curvature_on r i s ≈ᶠ end_curvature r (suc i)
+  clothoid-before : (i s : ℕ) → suc i < length r.plan → s ≡ element_start r (suc i) → (element_of r i).kind ≡ Clothoid → curvature_on r i s ≈ᶠ end_curvature r (suc i)
   clothoid-before i s h e k = same-value (element-positive i s (omega arith)) (on-clothoid r i s k) then clothoid-end i s (omega arith) e
 
-  clothoid-after : (i s : ℕ) → suc i < length r.plan → s ≡ element_start r (suc i) → (element_of r (suc i)).kind ≡ 2 → end_curvature r i ≈ᶠ curvature_on r (suc i) s
+  clothoid-after : (i s : ℕ) → suc i < length r.plan → s ≡ element_start r (suc i) → (element_of r (suc i)).kind ≡ Clothoid → end_curvature r i ≈ᶠ curvature_on r (suc i) s
   clothoid-after i s h e k = other_way (same-value (element-positive (suc i) s h) (on-clothoid r (suc i) s k) then clothoid-start (suc i) s h e)
 
   pub elements_meet : (i s : ℕ) → suc i < length r.plan → s ≡ element_start r (suc i) → curvature_on r i s ≈ᶠ curvature_on r (suc i) s
   elements_meet i s h e = go (element_of r i).kind refl
     where
       -- a straight's and an arc's own
-      own : (j k : ℕ) → (element_of r j).kind ≡ k → k < 2 → curvature_on r j s ≡ end_curvature r j
-      own j zero k l = on-straight r j s k ∙ sym (end_zero r j (rw k))
-      own j (suc zero) k l = on-arc r j s k ∙ sym (end-arc r j (rw k))
-      own j (suc (suc m)) k l = absurd (omega arith)
+      own : (j : ℕ) (k : Kind) → (element_of r j).kind ≡ k → clothoid_kind k ≡ false → curvature_on r j s ≡ end_curvature r j
+      own j Straight k o = on-straight r j s (rw k) ∙ sym (end_zero r j (rw k))
+      own j Arc k o = on-arc r j s k ∙ sym (end-arc r j (rw k))
+      own j Clothoid k o = absurd (true_false true refl o)
 
-      into : Stands r 2 (suc i) → (k : ℕ) → (element_of r i).kind ≡ k → k < 2 → curvature_on r i s ≈ᶠ curvature_on r (suc i) s
-      into c k q l = same-value (element-positive i s (omega arith)) (own i k q l) then clothoid-after i s h e c.is
+      into : Stands r Clothoid (suc i) → (k : Kind) → (element_of r i).kind ≡ k → clothoid_kind k ≡ false → curvature_on r i s ≈ᶠ curvature_on r (suc i) s
+      into c k q o = same-value (element-positive i s (omega arith)) (own i k q o) then clothoid-after i s h e c.is
 
       -- 0 where two clothoids meet
-      behind : (element_of r i).kind ≡ 2 → (k : ℕ) → (element_of r (suc i)).kind ≡ k → curvature_on r i s ≈ᶠ curvature_on r (suc i) s
-      behind k zero q = clothoid-before i s h e k then same-value (end-positive (suc i)) (sym (own (suc i) 0 q (omega arith)))
-      behind k (suc zero) q = clothoid-before i s h e k then same-value (end-positive (suc i)) (sym (own (suc i) 1 q (omega arith)))
-      behind k (suc (suc zero)) q = clothoid-before i s h e k then same-value (end-positive (suc i)) (end_zero r (suc i) (rw q) ∙ sym (end_zero r i (rw k))) then clothoid-after i s h e q
-      behind k (suc (suc (suc m))) q = absurd (omega (arith, (element_in A (suc i) h).kind.high))
+      behind : (element_of r i).kind ≡ Clothoid → (k : Kind) → (element_of r (suc i)).kind ≡ k → curvature_on r i s ≈ᶠ curvature_on r (suc i) s
+      behind k Straight q = clothoid-before i s h e k then same-value (end-positive (suc i)) (sym (own (suc i) Straight q refl))
+      behind k Arc q = clothoid-before i s h e k then same-value (end-positive (suc i)) (sym (own (suc i) Arc q refl))
+      behind k Clothoid q = clothoid-before i s h e k then same-value (end-positive (suc i)) (end_zero r (suc i) (rw q) ∙ sym (end_zero r i (rw k))) then clothoid-after i s h e q
 
-      go : (k : ℕ) → (element_of r i).kind ≡ k → curvature_on r i s ≈ᶠ curvature_on r (suc i) s
-      go zero k = into (order.straight i (record { within = omega arith; is = k }) h) 0 k (omega arith)
-      go (suc zero) k = into (order.arc i (record { within = omega arith; is = k })) 1 k (omega arith)
-      go (suc (suc zero)) k = behind k (element_of r (suc i)).kind refl
-      go (suc (suc (suc m))) k = absurd (omega (arith, (element_in A i (omega arith)).kind.high))
+      go : (k : Kind) → (element_of r i).kind ≡ k → curvature_on r i s ≈ᶠ curvature_on r (suc i) s
+      go Straight k = into (order.straight i (record { within = omega arith; is = k }) h) Straight k refl
+      go Arc k = into (order.arc i (record { within = omega arith; is = k })) Arc k refl
+      go Clothoid k = behind k (element_of r (suc i)).kind refl
 
   -- the exact curvature at a station is that of any element that has the station
   elements : EndToEnd (element_start r) (length r.plan) (curvature_on r)
@@ -204,10 +204,10 @@ module _ {r : Road} (A : Accepted r) where
 
   -- ---- "Curvature is 0 on straights, 10⁹/R on arcs", ends included
   pub straight-curvature : (i s : ℕ) → OnElement r i s → is_straight (element_of r i) ≡ true → curvature r s ≈ᶠ whole (pos 0)
-  straight-curvature i s o e = curvature-on i s o then same-value (element-positive i s o.place) (on-straight r i s (eqb-true (element_of r i).kind 0 e))
+  straight-curvature i s o e = curvature-on i s o then same-value (element-positive i s o.place) (on-straight r i s e)
 
   pub arc-curvature : (i s : ℕ) → OnElement r i s → is_arc (element_of r i) ≡ true → curvature r s ≈ᶠ arc_curvature (element_of r i).radius
-  arc-curvature i s o e = curvature-on i s o then same-value (element-positive i s o.place) (on-arc r i s (eqb-true (element_of r i).kind 1 e))
+  arc-curvature i s o e = curvature-on i s o then same-value (element-positive i s o.place) (on-arc r i s (is-arc-kind (element_of r i).kind e))
 
   -- ---- "A clothoid therefore carries the curvature at both of its ends"
   module _ (i s : ℕ) (o : OnElement r i s) (c : is_clothoid (element_of r i) ≡ true) where
@@ -215,7 +215,7 @@ module _ {r : Road} (A : Accepted r) where
     unfolding clothoid_curvature
     by_ends p q =
         curvature-on i s o
-        then same-value (element-positive i s o.place) (on-clothoid r i s (eqb-true (element_of r i).kind 2 c) ∙ ap₂ (λ (x y : Frac). evenly x y (from element_start r i to s) (element_of r i).length) p q)
+        then same-value (element-positive i s o.place) (on-clothoid r i s (is-clothoid-kind (element_of r i).kind c) ∙ ap₂ (λ (x y : Frac). evenly x y (from element_start r i to s) (element_of r i).length) p q)
 
     -- "on a clothoid its arc's 10⁹/R × distance from the clothoid's straight end / clothoid length": the arc follows it, and none stands before it
     pub clothoid_in : is_arc (element_before r i) ≡ false → is_arc (element_of r (suc i)) ≡ true → curvature r s ≈ᶠ arc_curvature (element_of r (suc i)).radius ×ᶠ ((from element_start r i to s) ÷ (element_of r i).length)
@@ -240,5 +240,5 @@ module _ {r : Road} (A : Accepted r) where
   pub pair-meets : (i : ℕ) → suc i < length r.plan → is_clothoid (element_of r i) ≡ true → is_clothoid (element_of r (suc i)) ≡ true → curvature r (element_start r (suc i)) ≈ᶠ whole (pos 0)
   pair-meets i h c d =
       curvature-on i (element_start r (suc i)) (record { place = omega arith; low = omega (arith, element-step r i); high = omega arith })
-      then clothoid-before i (element_start r (suc i)) h refl (eqb-true (element_of r i).kind 2 c)
-      then same-value (end-positive (suc i)) (end_zero r (suc i) (rw (eqb-true (element_of r (suc i)).kind 2 d)))
+      then clothoid-before i (element_start r (suc i)) h refl (is-clothoid-kind (element_of r i).kind c)
+      then same-value (end-positive (suc i)) (end_zero r (suc i) (rw (is-clothoid-kind (element_of r (suc i)).kind d)))

@@ -17,6 +17,9 @@ use Rattle.road.specs.Blade.{Neighbouring, blade, bound}
 use Rattle.road.specs.Demand.{Row, printed_height, BladeClose}
 use Rattle.road.specs.Listing.{listing_calls, listing_rows}
 use Rattle.road.specs.Sample as Sample
+use Rattle.road.specs.declared.Kind.TheVariants.{Straight}
+use Rattle.road.specs.declared.Class.TheVariants.{Access}
+use Rattle.road.specs.declared.Terrain.TheVariants.{Mountain}
 use Rattle.road.specs.declared.Contract.TheVariants.{Undated}
 use Rattle.road.specs.Compute.{computed}
 
@@ -39,8 +42,8 @@ file = joined shortest numbers
 
 abbrev pub road : Road
 road = record {
-  head = record { contract = Undated; class = 4; terrain = 3; step = 50_000; ramp = 5000 };
-  plan = record { kind = 0; length = 22_075; radius = pos 0 } ∷ [];
+  head = record { contract = Undated; class = Access; terrain = Mountain; step = 50_000; ramp = 5000 };
+  plan = record { kind = Straight; length = 22_075; radius = pos 0 } ∷ [];
   start = negsuc 9;
   tangents = record { length = 11_025; grade = pos 20_000; half = 11_000 } ∷ record { length = 11_050; grade = negsuc 19_999; half = 0 } ∷ [];
   crossfalls = record { station = 0; left = negsuc 25_999; right = negsuc 29_999 } ∷ record { station = 22_075; left = negsuc 25_999; right = negsuc 29_999 } ∷ [];

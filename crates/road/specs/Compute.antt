@@ -3,7 +3,7 @@ use Rattle.road.specs.Base.{first_from, first_that, last_that, count_from, sum_o
 use Rattle.file_numbers.specs.Reading.{many}
 use Rattle.file_numbers.specs.Number.{groups, bits_in, bits, byte_count, shortest_in, shortest, sound, number, signed_of}
 use Rattle.days.specs.Day.{leap_year, month_days, gregorian, is_day}
-use Rattle.road.specs.File.{fitting, date, number_is, dated_fields, contract_fields, field, signed, element, tangent, point, head_fields, plan_fields, profile_fields, crossfall_fields, fields, ended, read}
+use Rattle.road.specs.File.{fitting, date, number_is, dated_fields, contract_fields, field, choice, signed, element, tangent, point, head_fields, plan_fields, profile_fields, crossfall_fields, fields, ended, read}
 use Rattle.road.specs.Limits.{speed, cell, radius_min_at, clothoid_at, limits_at, limits_of, limits}
 use Rattle.road.specs.Lane.{lane_width}
 use Rattle.integers.specs.Rounding.{round, rounded}
@@ -22,7 +22,7 @@ unfolding
     first_from first_that last_that count_from sum_of joined many
     groups bits_in bits byte_count shortest_in shortest sound number
     leap_year month_days gregorian is_day
-    fitting date number_is dated_fields contract_fields field signed_of signed element tangent point head_fields plan_fields profile_fields crossfall_fields fields ended read
+    fitting date number_is dated_fields contract_fields field choice signed_of signed element tangent point head_fields plan_fields profile_fields crossfall_fields fields ended read
     speed cell radius_min_at clothoid_at limits_at limits_of limits lane_width
     round rounded
     element_start tangent_start total element_at tangent_at point_at rise start_height tangent_height in_curve curve_at curve_height height grade crossfall_by crossfall edge_drop edge end_curvature clothoid_curvature curvature_on curvature

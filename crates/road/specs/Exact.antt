@@ -1,18 +1,19 @@
 -- Document 01, "The exact road".
-use Rattle.std.specs.Prelude.{ℕ, zero, suc, ◌+◌, ◌*◌, ◌-◌, List, [], ◌∷◌, Bool, ◌&&◌, length, take, get_or, leb, ltb, eqb, ℤ, pos, ◌+ℤ◌, ◌-ℤ◌, ◌*ℤ◌, if◌then◌else◌, Option, None, Some}
+use Rattle.std.specs.Prelude.{ℕ, zero, suc, ◌+◌, ◌*◌, ◌-◌, List, [], ◌∷◌, Bool, ◌&&◌, length, take, get_or, leb, ltb, ℤ, pos, ◌+ℤ◌, ◌-ℤ◌, ◌*ℤ◌, if◌then◌else◌, Option, None, Some}
 use Rattle.road.specs.Base.{first_that, last_that, sum_of}
 use Rattle.integers.specs.Fraction.{Frac, ◌÷◌, whole, ◌over◌, ◌+ᶠ◌, ◌-ᶠ◌, ◌×ᶠ◌}
-use Rattle.road.specs.File.{Road}
+use Rattle.road.specs.File.{Road, straight_kind, arc_kind, clothoid_kind}
 use Rattle.road.specs.Lane.{lane_width}
+use Rattle.road.specs.declared.Kind.TheVariants.{Straight}
 use Rattle.road.specs.declared.Element.{Element}
 use Rattle.road.specs.declared.Tangent.{Tangent}
 use Rattle.road.specs.declared.Crossfall.{Crossfall}
 
 -- ---- the items of the three lists, and the stations where they begin
 
--- past the end of a list stands an item of zeros
+-- past the end of a list stands a straight of length 0, and an item of zeros
 abbrev pub blank_element : Element
-blank_element = record { kind = 0; length = 0; radius = pos 0 }
+blank_element = record { kind = Straight; length = 0; radius = pos 0 }
 
 abbrev pub blank_tangent : Tangent
 blank_tangent = record { length = 0; grade = pos 0; half = 0 }
@@ -30,13 +31,13 @@ abbrev pub point_of : Road → ℕ → Crossfall
 point_of r i = get_or r.crossfalls i blank_crossfall
 
 abbrev pub is_straight : Element → Bool
-is_straight e = eqb e.kind 0
+is_straight e = straight_kind e.kind
 
 abbrev pub is_arc : Element → Bool
-is_arc e = eqb e.kind 1
+is_arc e = arc_kind e.kind
 
 abbrev pub is_clothoid : Element → Bool
-is_clothoid e = eqb e.kind 2
+is_clothoid e = clothoid_kind e.kind
 
 -- the lengths of the first i elements, and of the first i tangents
 unfoldable pub element_start : Road → ℕ → ℕ

@@ -1,5 +1,5 @@
 -- Document 01 and document 02: the number of each refusal.
-use Rattle.std.specs.Prelude.{ℕ, Result, Ok, Err}
+use Rattle.std.specs.Prelude.{ℕ, ◌&&◌, leb, if◌then◌else◌, Result, Ok, Err}
 use Rattle.file_numbers.specs.Reading.{Got, got, refused}
 use Rattle.road.specs.Rules.{element_test, tangent_test, point_test, road_test}
 use Rattle.road.specs.declared.ElementRule.{ElementRule}
@@ -34,6 +34,10 @@ fault_number ShortBuffer = 20
 fault_number BeyondEnd = 21
 fault_number NoDay = 22
 fault_number BadPeg = 24
+
+-- what a number from low to high stands for; any other is outside its range
+abbrev pub named : {A : Type 0} → (low high : ℕ) → (ℕ → A) → ℕ → Result A Fault
+named low high of n = if leb low n && leb n high then Ok (of n) else Err OutOfRange
 
 -- a result of the code and the place where reading ended: a value, or "the number and a place"
 abbrev pub as_got : {A : Type 0} → Result A Refusal → (end : ℕ) → Got A

@@ -6,6 +6,12 @@ use Rattle.file_numbers.specs.Number.{number, signed_of}
 use Rattle.days.specs.Day.{is_day}
 use Rattle.road.specs.declared.Contract.{Contract}
 use Rattle.road.specs.declared.Contract.TheVariants.{Undated, Dated}
+use Rattle.road.specs.declared.Kind.{Kind}
+use Rattle.road.specs.declared.Kind.TheVariants.{Straight, Arc, Clothoid}
+use Rattle.road.specs.declared.Class.{Class}
+use Rattle.road.specs.declared.Class.TheVariants.{LongDistance, Connecting, Collecting, Access}
+use Rattle.road.specs.declared.Terrain.{Terrain}
+use Rattle.road.specs.declared.Terrain.TheVariants.{Flat, Hilly, Mountain}
 use Rattle.road.specs.declared.Head.{Head}
 use Rattle.road.specs.declared.Element.{Element}
 use Rattle.road.specs.declared.Tangent.{Tangent}
@@ -31,6 +37,12 @@ in_range = fitting 3
 unfoldable pub field : (low high : ℕ) → Reading ℕ
 field low high s at = and_then (number s at) λ v next. in_range (λ n. leb low n && leb n high) v at s next
 
+-- what a number from low to high stands for
+unfoldable pub choice : {A : Type 0} → (low high : ℕ) → (ℕ → A) → Reading A
+choice low high of = do
+  n ← field low high
+  give (of n)
+
 -- a signed value in a range
 unfoldable pub signed : (ℤ → Bool) → Reading ℤ
 signed fits s at = and_then (number s at) λ v next. in_range fits (signed_of v) at s next
@@ -41,6 +53,25 @@ between low high v = le_z low v && le_z v high
 abbrev pub in_size : ℕ → ℕ → ℤ → Bool
 in_size low high v = leb low (nat_abs v) && leb (nat_abs v) high
 
+-- "kind 0 straight, 1 arc, 2 clothoid"
+abbrev pub kind_of : ℕ → Kind
+kind_of n = if eqb n 0 then Straight else (if eqb n 1 then Arc else Clothoid)
+
+abbrev pub straight_kind : Kind → Bool
+straight_kind Straight = true
+straight_kind Arc = false
+straight_kind Clothoid = false
+
+abbrev pub arc_kind : Kind → Bool
+arc_kind Straight = false
+arc_kind Arc = true
+arc_kind Clothoid = false
+
+abbrev pub clothoid_kind : Kind → Bool
+clothoid_kind Straight = false
+clothoid_kind Arc = false
+clothoid_kind Clothoid = true
+
 -- "for an arc a signed radius, 10,000 to 10,000,000 in size"
 abbrev pub radius : Bool → Reading ℤ
 radius true = signed (in_size 10_000 10_000_000)
@@ -49,9 +80,9 @@ radius false = give (pos 0)
 -- "each element: kind 0 straight, 1 arc, 2 clothoid; length 1 to 10,000,000; for an arc a signed radius"
 unfoldable pub element : Reading Element
 element = do
-  kind ← field 0 2
+  kind ← choice 0 2 kind_of
   long ← field 1 10_000_000
-  r ← radius (eqb kind 1)
+  r ← radius (arc_kind kind)
   give (record { kind = kind; length = long; radius = r })
 
 -- "then, except after the last, half length h of the vertical curve that follows, 0 to 1,000,000"
@@ -94,12 +125,20 @@ dated_fields = do
 unfoldable pub contract_fields : Reading Contract
 contract_fields s at = elim (number_is 9 s at) [ true ↦ dated_fields s at | false ↦ give Undated s at ]
 
+-- "class 1 long-distance, 2 connecting, 3 collecting, 4 access"
+abbrev pub class_of : ℕ → Class
+class_of n = if eqb n 1 then LongDistance else (if eqb n 2 then Connecting else (if eqb n 3 then Collecting else Access))
+
+-- "terrain 1 flat, 2 hilly, 3 mountain"
+abbrev pub terrain_of : ℕ → Terrain
+terrain_of n = if eqb n 1 then Flat else (if eqb n 2 then Hilly else Mountain)
+
 -- "class 1 long-distance, 2 connecting, 3 collecting, 4 access; terrain 1 flat, 2 hilly, 3 mountain; step 1,000 to 100,000; ramp limit 1 to 20,000 ppm"
 unfoldable pub head_fields : Reading Head
 head_fields = do
   contract ← contract_fields
-  class ← field 1 4
-  terrain ← field 1 3
+  class ← choice 1 4 class_of
+  terrain ← choice 1 3 terrain_of
   step ← field 1000 100_000
   ramp ← field 1 20_000
   give (record { contract = contract; class = class; terrain = terrain; step = step; ramp = ramp })

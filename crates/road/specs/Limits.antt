@@ -6,6 +6,10 @@ use Rattle.road.specs.declared.Contract.{Contract}
 use Rattle.road.specs.declared.Contract.TheVariants.{Undated, Dated}
 use Rattle.road.specs.declared.LeastClothoid.{LeastClothoid}
 use Rattle.road.specs.declared.LeastClothoid.TheVariants.{Parameter, Length}
+use Rattle.road.specs.declared.Class.{Class}
+use Rattle.road.specs.declared.Class.TheVariants.{LongDistance, Connecting, Collecting, Access}
+use Rattle.road.specs.declared.Terrain.{Terrain}
+use Rattle.road.specs.declared.Terrain.TheVariants.{Flat, Hilly, Mountain}
 use Rattle.road.specs.declared.Head.{Head}
 
 -- "Speed in km/h by terrain 1, 2, 3", classes 1 to 4
@@ -17,8 +21,20 @@ speeds =
     ∷ (60 ∷ 50 ∷ 40 ∷ [])
     ∷ []
 
-unfoldable pub speed : (class terrain : ℕ) → ℕ
-speed class terrain = get_or (get_or speeds (class - 1) []) (terrain - 1) 0
+-- the row of a class, and the column of a terrain
+abbrev pub class_row : Class → ℕ
+class_row LongDistance = 0
+class_row Connecting = 1
+class_row Collecting = 2
+class_row Access = 3
+
+abbrev pub terrain_column : Terrain → ℕ
+terrain_column Flat = 0
+terrain_column Hilly = 1
+terrain_column Mountain = 2
+
+unfoldable pub speed : Class → Terrain → ℕ
+speed class terrain = get_or (get_or speeds (class_row class) []) (terrain_column terrain) 0
 
 -- the mark for "-", "no such rule"
 abbrev pub no_rule : ℕ

@@ -7,6 +7,9 @@ use Rattle.road.specs.File.{Road}
 use Rattle.road.specs.Rules.{accepted}
 use Rattle.road.specs.Text.{printed_line}
 use Rattle.road.specs.Listing.{listing}
+use Rattle.road.specs.declared.Kind.TheVariants.{Straight}
+use Rattle.road.specs.declared.Class.TheVariants.{Access}
+use Rattle.road.specs.declared.Terrain.TheVariants.{Mountain}
 use Rattle.road.specs.declared.Contract.TheVariants.{Undated}
 use Rattle.road.specs.Compute.{computed}
 
@@ -28,8 +31,8 @@ file = joined shortest numbers
 
 abbrev pub road : Road
 road = record {
-  head = record { contract = Undated; class = 4; terrain = 3; step = 50_000; ramp = 5000 };
-  plan = record { kind = 0; length = 200_000; radius = pos 0 } ∷ [];
+  head = record { contract = Undated; class = Access; terrain = Mountain; step = 50_000; ramp = 5000 };
+  plan = record { kind = Straight; length = 200_000; radius = pos 0 } ∷ [];
   start = pos 500_000;
   tangents = record { length = 100_000; grade = pos 20_000; half = 20_000 } ∷ record { length = 100_000; grade = negsuc 19_999; half = 0 } ∷ [];
   crossfalls = record { station = 0; left = negsuc 24_999; right = negsuc 24_999 } ∷ record { station = 200_000; left = negsuc 24_999; right = negsuc 24_999 } ∷ [];

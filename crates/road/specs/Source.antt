@@ -1,6 +1,7 @@
 -- The speeds and the tables of limits against their sources: annex 2 of the rule book (source document 001), table 3-03 and chapter 10; arc lengths and the old handbook's table from source document 003.
 use Rattle.std.specs.Prelude.{ℕ, ◌*◌, ◌≡◌, refl, List, [], ◌∷◌, map, get_or, take, drop, leb, eqb, true, false, if◌then◌else◌}
 use Rattle.road.specs.Base.{count_from}
+use Rattle.road.specs.File.{class_of, terrain_of}
 use Rattle.road.specs.Limits.{speed, no_rule, table, cell, is_old, radius_min_at, clothoid_at, limits_at}
 use Rattle.road.specs.declared.Contract.{Contract}
 use Rattle.road.specs.declared.Contract.TheVariants.{Undated}
@@ -21,7 +22,7 @@ abbrev pub two_lane : ℕ → ℕ
 two_lane v = if leb v 100 then v else 100
 
 -- the speed of each class and terrain is the source's, cut by its note
-pub speeds_from_source : map (λ class. map (speed class) (count_from 1 3)) (count_from 1 4) ≡ map (map two_lane) table3_03
+pub speeds_from_source : map (λ class. map (λ terrain. speed (class_of class) (terrain_of terrain)) (count_from 1 3)) (count_from 1 4) ≡ map (map two_lane) table3_03
 unfolding count_from speed
 speeds_from_source = refl
 

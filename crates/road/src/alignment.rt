@@ -2,7 +2,7 @@
 
 ghost use Rattle.std.specs.Prelude.{◌≡◌, ◌<◌, ◌≤◌, ◌++◌, ◌∷◌, [], length, pos};
 
-use crate::{Contract, Crossfall, Element, Head, Tangent};
+use crate::{Contract, Crossfall, Element, Head, Kind, Tangent};
 use std::marker::Model;
 
 // An alignment is held as three lists with their counts. Contracts see the road that it holds.
@@ -38,7 +38,7 @@ impl Alignment {
         Alignment {
             head,
             elements: [Element {
-                kind: 0,
+                kind: Kind::Straight,
                 length: 0,
                 radius: 0,
             }; 200],

@@ -3,15 +3,24 @@
 #![tactic(auto)]
 
 mod alignment;
+mod kinds;
 mod refusal;
 
 pub use alignment::Alignment;
 pub use refusal::{Fault, Refusal};
 
-// An element of the plan: kind 0 straight, 1 arc, 2 clothoid; the radius of what is no arc is 0.
+// What an element of the plan is.
+#[derive(Clone, Copy, Debug, PartialEq, Eq)]
+pub enum Kind {
+    Straight,
+    Arc,
+    Clothoid,
+}
+
+// An element of the plan; the radius of what is no arc is 0.
 #[derive(Clone, Copy)]
 pub struct Element {
-    pub kind: u32,
+    pub kind: Kind,
     pub length: u32,
     pub radius: i32,
 }
@@ -46,12 +55,29 @@ pub enum LeastClothoid {
     Length(u32),
 }
 
+// The class of a road, in the order of the table of speeds.
+#[derive(Clone, Copy, Debug, PartialEq, Eq)]
+pub enum Class {
+    LongDistance,
+    Connecting,
+    Collecting,
+    Access,
+}
+
+// The terrain, in the order of the table of speeds.
+#[derive(Clone, Copy, Debug, PartialEq, Eq)]
+pub enum Terrain {
+    Flat,
+    Hilly,
+    Mountain,
+}
+
 // What a file says before its three lists.
 #[derive(Clone, Copy)]
 pub struct Head {
     pub contract: Contract,
-    pub class: u32,
-    pub terrain: u32,
+    pub class: Class,
+    pub terrain: Terrain,
     pub step: u32,
     pub ramp: u32,
 }
