@@ -1,17 +1,11 @@
 -- How a cursor moves on along a list.
-use Rattle.std.specs.Prelude.{if◌then◌else◌}
-use Rattle.std.proofs.Common.{◌≡◌, refl, sym, ap, ap₂, ◌∙◌, Bool, true, false, ◌&&◌, ℕ, zero, suc, ◌+◌, ◌-◌, ◌<◌, ◌≤◌, min, leb, ltb, length, get_or, ℤ, pos, ◌+ℤ◌, ◌*ℤ◌, arith, add-one}
-use borrow.Author.Tests.{lt-ltb, ltb-true, ltb-false, leb-true}
-use Rattle.std.proofs.Math.ListN.{get_or-eq_default}
+use Rattle.std.proofs.Common.{◌≡◌, refl, sym, ap, ap₂, ◌∙◌, subst, ℕ, zero, suc, ◌+◌, ◌-◌, ◌<◌, ◌≤◌, length, get_or, ℤ, pos, ◌+ℤ◌, ◌*ℤ◌, arith, add-one}
 use Rattle.std.proofs.Math.IntN.{+ℤ_idr}
 use Rattle.road.specs.Base.{sum_of}
-use Rattle.laws_of_lists.specs.Tests.{and_left, and_right}
 use Rattle.road.specs.File.{Road}
 use Rattle.road.specs.Exact.{blank_element, element_of, tangent_of, point_of, element_start, tangent_start, rise}
 use Rattle.road.specs.Rules.{element_before}
-use Rattle.road.specs.Held.{road_in}
-use Rattle.laws_of_acceptance.specs.Lists.{element-step, tangent-step, element-item}
-use Rattle.road.specs.declared.Alignment.{Alignment}
+use Rattle.laws_of_acceptance.specs.Lists.{element-step, tangent-step}
 use Rattle.road.specs.declared.Element.{Element}
 use Rattle.road.specs.declared.Tangent.{Tangent}
 use Rattle.road.specs.declared.Crossfall.{Crossfall}
@@ -37,11 +31,6 @@ begun_later b h = record { within = b.below; begun = let l = b.from in omega ari
 reached_later : {f : ℕ → ℕ} {n x y i : ℕ} → Reached f n x i → x ≤ y → Reached f n y i
 reached_later a h = record { within = a.within; begun = let l = a.begun in omega arith }
 
--- the test of a cursor's loop: there is a next item, and it begins at or before x
-module _ (next count begins x : ℕ) where
-  pub goes_on : (ltb next count && leb begins x) ≡ true → (next < count) × (begins ≤ x)
-  goes_on e = (ltb-true next count (and_left (ltb next count) (leb begins x) e), leb-true begins x (and_right (ltb next count) (leb begins x) e))
-
 -- ---- the plan
 -- element i, and where it begins
 pub record AtElement (r : Road) (x i begin : ℕ) (e : Element) : Type 0 where
@@ -59,27 +48,18 @@ module _ {r : Road} {x i begin : ℕ} {e : Element} (g : AtElement r x i begin e
   pub element_found : {c : Curvature} → (suc i < length r.plan → x < begin + e.length) → c ≡ curvature_at r i → ElementFound r (record { index = i; begin = begin; end = begin + e.length; curvature = c }) x
   element_found h c = let n = element-end in record { placed = record { begin = g.starts; end = n; curvature = c }; at = reached-ends g.at (λ u. let l = h u in omega arith) }
 
--- the elements beside element i of an alignment
-pub before-item : (a : Alignment) (i : ℕ) → i < a.element_count → (if ltb 0 i then get_or a.elements (i - 1) blank_element else blank_element) ≡ element_before (road_in a) i
-before-item a zero h = refl
-before-item a (suc i) h = let e : suc i - 1 ≡ i = omega arith in rw (lt-ltb 0 (suc i) (omega arith)) (ap (λ (k : ℕ). get_or a.elements k blank_element) e ∙ element-item a i (omega arith))
-
-pub after-item : (a : Alignment) (i : ℕ) → length (road_in a).plan ≡ a.element_count → a.element_count ≤ 200
-    → (if ltb (i + 1) a.element_count then get_or a.elements (min (suc i) 199) blank_element else blank_element) ≡ element_of (road_in a) (suc i)
-after-item a i n m = go (ltb (i + 1) a.element_count) refl
-  where
-    go : (b : Bool) → ltb (i + 1) a.element_count ≡ b → (if b then get_or a.elements (min (suc i) 199) blank_element else blank_element) ≡ element_of (road_in a) (suc i)
-    go true e = let l = ltb-true (i + 1) a.element_count e in let q : min (suc i) 199 ≡ suc i = omega arith in ap (λ (k : ℕ). get_or a.elements k blank_element) q ∙ element-item a (suc i) (omega arith)
-    go false e = let l = ltb-false (i + 1) a.element_count e in sym (get_or-eq_default (road_in a).plan blank_element (omega arith))
+-- past the first element, the one before it
+pub before-item : (r : Road) (i : ℕ) → (i ≡ 0 → ⊥) → get_or r.plan (i - 1) blank_element ≡ element_before r i
+before-item r zero h = absurd (h refl)
+before-item r (suc i) h = ap (λ (k : ℕ). get_or r.plan k blank_element) (omega arith)
 
 -- ---- the profile
--- the place of tangent i
-pub record AtTangent (r : Road) (x : ℕ) (p : TangentPlace) (i : ℕ) (t : Tangent) : Type 0 where
-  pub index : p.index ≡ i
+-- a tangent reached, and its place
+pub record AtTangent (r : Road) (x : ℕ) (p : TangentPlace) (t : Tangent) : Type 0 where
   pub reached : TangentReached r p x
   pub item : t ≡ tangent_of r p.index
 
-module _ {r : Road} {x : ℕ} {p : TangentPlace} {i : ℕ} {t : Tangent} (g : AtTangent r x p i t) where
+module _ {r : Road} {x : ℕ} {p : TangentPlace} {t : Tangent} (g : AtTangent r x p t) where
   pub tangent-end : p.begin + t.length ≡ tangent_start r (suc p.index)
   tangent-end = ap₂ ◌+◌ g.reached.placed.begin (ap (λ (t : Tangent). t.length) g.item) ∙ sym (tangent-step r p.index)
 
@@ -97,21 +77,18 @@ module _ {r : Road} {x : ℕ} {p : TangentPlace} {i : ℕ} {t : Tangent} (g : At
         at = record { within = h; begun = omega arith };
       })
 
-  pub tangent-more : {q : TangentPlace} {t' : Tangent} → q ≡ next_place p t → suc i < length r.tangents → p.begin + t.length ≤ x → t' ≡ tangent_of r (i + 1) → AtTangent r x q (i + 1) t'
-  tangent-more e h l w =
-      let k = g.index in
-      rw e (record { index = omega arith; reached = next-reached (omega arith) l; item = w ∙ ap (λ (j : ℕ). tangent_of r (j + 1)) (sym k) })
+  pub tangent-more : {q : TangentPlace} {t' : Tangent} → q ≡ next_place p t → suc p.index < length r.tangents → p.begin + t.length ≤ x → t' ≡ tangent_of r q.index → AtTangent r x q t'
+  tangent-more e h l w = record { reached = subst (λ (q : TangentPlace). TangentReached r q x) (sym e) (next-reached h l); item = w }
 
   -- the last that begins at or before x
-  pub tangent_found : (suc i < length r.tangents → x < p.begin + t.length) → TangentFound r p x
-  tangent_found h = let k = g.index in let n = tangent-end in record { placed = g.reached.placed; at = reached-ends g.reached.at (λ u. let l = h (omega arith) in omega arith) }
+  pub tangent_found : (suc p.index < length r.tangents → x < p.begin + t.length) → TangentFound r p x
+  tangent_found h = let n = tangent-end in record { placed = g.reached.placed; at = reached-ends g.reached.at (λ u. let l = h u in omega arith) }
 
 -- ---- the crossfalls
--- point i, and the one after it
-pub record AtPoint (r : Road) (x i j : ℕ) (d : Crossfall) : Type 0 where
+-- a point reached, and the one after it
+pub record AtPoint (r : Road) (x i : ℕ) (d : Crossfall) : Type 0 where
   pub at : Reached (point_station r) (length r.crossfalls - 1) x i
-  pub next : j ≡ i + 1
-  pub item : d ≡ point_of r j
+  pub item : d ≡ point_of r (suc i)
 
 -- ---- the first of each list
 pub element-first : (r : Road) → element_start r 0 ≡ 0

@@ -1,13 +1,8 @@
 -- Where a station lies on the three lists of a road, and what a place reached on the way says.
 use Rattle.std.specs.Prelude.{◌≡◌, ℕ, suc, ◌-◌, ◌≤◌, ◌<◌, length}
 use Rattle.road.specs.File.{Road}
-use Rattle.road.specs.Exact.{point_of, element_start, tangent_start, total}
-use Rattle.road.specs.Lane.{lane_width}
-use Rattle.road.specs.Held.{Counted, road_in}
-use Rattle.road.specs.declared.Alignment.{Alignment}
-use Rattle.road.specs.declared.AcceptedRoad.{AcceptedRoad}
+use Rattle.road.specs.Exact.{point_of, element_start, tangent_start}
 use Rattle.laws_of_search.specs.Last.{Begun}
-use Rattle.laws_of_acceptance.specs.Guaranteed.{Guaranteed}
 use Rattle.segment_parts.specs.Tangents.{TangentPlaced}
 use Rattle.segment_parts.specs.Pieces.{PieceAt}
 use Rattle.segment_parts.specs.Sides.{point_station, sides_of}
@@ -17,17 +12,6 @@ use Rattle.cursors.specs.declared.ElementPlace.{ElementPlace}
 use Rattle.cursors.specs.declared.ProfilePlace.{ProfilePlace}
 use Rattle.cursors.specs.declared.CrossfallPlace.{CrossfallPlace}
 use Rattle.cursors.specs.declared.Place.{Place}
-
--- an alignment whose road was accepted
-pub record Ready (a : Alignment) : Type 0 where
-  pub counted : Counted a
-  pub road : Guaranteed (road_in a)
-
--- an accepted road with its lane width and T
-pub record RoadReady (v : AcceptedRoad) : Type 0 where
-  pub alignment : Ready v.alignment
-  pub lane : v.lane ≡ lane_width (road_in v.alignment)
-  pub total : v.total ≡ total (road_in v.alignment)
 
 -- one of n starts, at or before x
 pub record Reached (f : ℕ → ℕ) (n x i : ℕ) : Type 0 where

@@ -2,15 +2,14 @@
 
 #![tactic(auto)]
 
-ghost use Rattle.std.specs.Prelude.{◌≡◌, ℕ, suc, ◌-◌, ◌≤◌, ◌<◌, min, length, if◌then◌else◌};
-ghost use Rattle.road.specs.Exact.{blank_element, element_start, total};
-ghost use Rattle.road.specs.Lane.{lane_width};
-ghost use Rattle.road.specs.Held.{road_in};
+ghost use Rattle.std.specs.Prelude.{◌≡◌, ℕ, ◌-◌, ◌≤◌, length};
+ghost use Rattle.road.specs.Exact.{element_start, total};
 ghost use Rattle.segment_parts.specs.Sides.{point_station};
-ghost use Rattle.cursors.specs.Places.{Ready, Reached, ElementReached, ElementFound, TangentReached, ProfileReached, ProfileFound, CrossfallReached, CrossfallFound, PlaceReached, PlaceFound};
+ghost use Rattle.cursors.specs.Places.{Reached, ElementReached, ElementFound, TangentReached, ProfileReached, ProfileFound, CrossfallReached, CrossfallFound, PlaceReached, PlaceFound};
 ghost use Rattle.cursors.specs.View.{Viewed};
 
-use road::{Alignment, Element};
+use accepted_road::AcceptedRoad;
+use road::{Element, Tangent};
 use segment::Segment;
 use segment_parts::{Curvature, Piece, Sides, TangentPlace};
 
@@ -54,64 +53,42 @@ pub struct View {
     pub segment: Segment,
 }
 
+// Past either end of a list stands the blank item.
+const BLANK_ELEMENT: Element = Element {
+    kind: 0,
+    length: 0,
+    radius: 0,
+};
+
+const BLANK_TANGENT: Tangent = Tangent {
+    length: 0,
+    grade: 0,
+    half: 0,
+};
+
 // ---- the three cursors, which only move forward
-// A list stands in a variable before it is indexed, and that copies it: so a cursor has one function with the list, which is called where the item ends.
-
-// The place before i; of 0 itself.
-fn one_less(i: usize) -> usize
-    ensures { result ≡ i - 1 }
-{
-    if i == 0 {
-        return 0;
-    }
-    i - 1
-}
-
-// The place after i, or the array's last.
-fn one_more(i: usize, last: usize) -> usize
-    requires { i < 200 }
-    ensures { result ≡ min (suc i) last }
-{
-    if last <= i {
-        return last;
-    }
-    i + 1
-}
-
-// An element that is there, else an element of zeros.
-fn element_if(there: bool, e: Element) -> Element
-    ensures { result ≡ (if there then e else blank_element) }
-{
-    if there {
-        return e;
-    }
-    Element {
-        kind: 0,
-        length: 0,
-        radius: 0,
-    }
-}
 
 // The last element that begins at or before x, from one that does.
-fn element_from(a: Alignment, first: usize, start: u64, x: u64) -> ElementPlace
-    requires ready { Ready a }
-    requires start_is { start ≡ element_start (road_in a) first }
-    requires reached { Reached (element_start (road_in a)) (length (road_in a).plan) x first }
-    ensures { ElementFound (road_in a) result x }
+fn element_from(road: &AcceptedRoad, first: usize, start: u64, x: u64) -> ElementPlace
+    requires start_is { start ≡ element_start road.now first }
+    requires reached { Reached (element_start road.now) (length road.now.plan) x first }
+    ensures { ElementFound road.now result x }
 {
-    let elements = a.elements;
+    let elements = road.alignment().elements();
     let mut i = first;
     let mut begin = start;
     let mut e = elements[i];
-    while (i + 1 < a.element_count) & (begin + e.length as u64 <= x) {
-        begin = begin + e.length as u64;
-        i = i + 1;
+    while i + 1 < elements.len() && begin + e.length as u64 <= x {
+        begin += e.length as u64;
+        i += 1;
         e = elements[i];
     }
-    let h = one_less(i);
-    let j = one_more(i, 199);
-    let before = element_if(0 < i, elements[h]);
-    let after = element_if(i + 1 < a.element_count, elements[j]);
+    let before = if i == 0 {
+        BLANK_ELEMENT
+    } else {
+        elements[i - 1]
+    };
+    let after = elements.get(i + 1).copied().unwrap_or(BLANK_ELEMENT);
     let curvature = segment_parts::curvature_of(before, e, after);
     ElementPlace {
         index: i,
@@ -122,95 +99,87 @@ fn element_from(a: Alignment, first: usize, start: u64, x: u64) -> ElementPlace
 }
 
 // The last tangent that begins at or before x, from one that does, and the piece of the profile that has x.
-fn profile_from(a: Alignment, first: TangentPlace, x: u64) -> ProfilePlace
-    requires ready { Ready a }
-    requires reached { TangentReached (road_in a) first x }
-    ensures { ProfileFound (road_in a) result x }
+fn profile_from(road: &AcceptedRoad, first: TangentPlace, x: u64) -> ProfilePlace
+    requires { TangentReached road.now first x }
+    ensures { ProfileFound road.now result x }
 {
-    let tangents = a.tangents;
+    let tangents = road.alignment().tangents();
     let mut tangent = first;
-    let mut i = tangent.index;
-    let mut t = tangents[i];
-    while (i + 1 < a.tangent_count) & (tangent.begin + t.length as u64 <= x) {
+    let mut t = tangents[tangent.index];
+    while tangent.index + 1 < tangents.len() && tangent.begin + t.length as u64 <= x {
         tangent = segment_parts::next_tangent(tangent, t);
-        i = i + 1;
-        t = tangents[i];
+        t = tangents[tangent.index];
     }
-    let j = one_more(i, 99);
-    let next = tangents[j];
+    let next = tangents
+        .get(tangent.index + 1)
+        .copied()
+        .unwrap_or(BLANK_TANGENT);
     let piece = segment_parts::piece_of(tangent, t, next, x);
     ProfilePlace { tangent, piece }
 }
 
 // The last crossfall point at or before x, of all but the road's last, from one that is.
-fn crossfall_from(a: Alignment, first: usize, x: u64) -> CrossfallPlace
-    requires ready { Ready a }
-    requires reached { Reached (point_station (road_in a)) (length (road_in a).crossfalls - 1) x first }
-    ensures { CrossfallFound (road_in a) result x }
+fn crossfall_from(road: &AcceptedRoad, first: usize, x: u64) -> CrossfallPlace
+    requires { Reached (point_station road.now) (length road.now.crossfalls - 1) x first }
+    ensures { CrossfallFound road.now result x }
 {
-    let crossfalls = a.crossfalls;
+    let points = road.alignment().crossfalls();
     let mut i = first;
-    let mut j = i + 1;
-    let mut d = crossfalls[j];
-    while (j + 1 < a.crossfall_count) & (d.station as u64 <= x) {
-        i = j;
-        j = j + 1;
-        d = crossfalls[j];
+    let mut next = points[i + 1];
+    while i + 2 < points.len() && next.station as u64 <= x {
+        i += 1;
+        next = points[i + 1];
     }
-    let c = crossfalls[i];
-    let sides = segment_parts::sides_of(c, d);
     CrossfallPlace {
         index: i,
-        end: d.station as u64,
-        sides,
+        end: next.station as u64,
+        sides: segment_parts::sides_of(points[i], next),
     }
 }
 
 // The element of x, from one at or before it.
-fn element_on(a: Alignment, p: ElementPlace, x: u64) -> ElementPlace
-    requires { (Ready a) × (ElementReached (road_in a) p x) }
-    ensures { ElementFound (road_in a) result x }
+fn element_on(road: &AcceptedRoad, p: ElementPlace, x: u64) -> ElementPlace
+    requires { ElementReached road.now p x }
+    ensures { ElementFound road.now result x }
 {
     if x < p.end {
         return p;
     }
-    element_from(a, p.index, p.begin, x)
+    element_from(road, p.index, p.begin, x)
 }
 
 // The piece of the profile that has x, from one at or before it.
-fn profile_on(a: Alignment, p: ProfilePlace, x: u64) -> ProfilePlace
-    requires ready { Ready a }
-    requires reached { ProfileReached (road_in a) p x }
-    ensures { ProfileFound (road_in a) result x }
+fn profile_on(road: &AcceptedRoad, p: ProfilePlace, x: u64) -> ProfilePlace
+    requires { ProfileReached road.now p x }
+    ensures { ProfileFound road.now result x }
 {
-    let piece = p.piece;
-    if x < piece.end {
+    if x < p.piece.end {
         return p;
     }
-    profile_from(a, p.tangent, x)
+    profile_from(road, p.tangent, x)
 }
 
 // The crossfall point of x, from one at or before it.
-fn crossfall_on(a: Alignment, p: CrossfallPlace, x: u64) -> CrossfallPlace
-    requires { (Ready a) × (CrossfallReached (road_in a) p x) }
-    ensures { CrossfallFound (road_in a) result x }
+fn crossfall_on(road: &AcceptedRoad, p: CrossfallPlace, x: u64) -> CrossfallPlace
+    requires { CrossfallReached road.now p x }
+    ensures { CrossfallFound road.now result x }
 {
     if x < p.end {
         return p;
     }
-    crossfall_from(a, p.index, x)
+    crossfall_from(road, p.index, x)
 }
 
 // ---- the place of a station
 
 // The place of station 0.
-pub fn start(a: Alignment) -> Place
-    requires { Ready a }
-    ensures { (x : ℕ) → PlaceReached (road_in a) result x }
+pub fn start(road: &AcceptedRoad) -> Place
+    ensures { (x : ℕ) → PlaceReached road.now result x }
 {
-    let element = element_from(a, 0, 0, 0);
-    let profile = profile_from(a, segment_parts::first_tangent(a.start), 0);
-    let crossfall = crossfall_from(a, 0, 0);
+    let first = segment_parts::first_tangent(road.alignment().start());
+    let element = element_from(road, 0, 0, 0);
+    let profile = profile_from(road, first, 0);
+    let crossfall = crossfall_from(road, 0, 0);
     Place {
         element,
         profile,
@@ -219,38 +188,30 @@ pub fn start(a: Alignment) -> Place
 }
 
 // The place of x, from one at or before it.
-pub fn moved(a: Alignment, p: Place, x: u64) -> Place
-    requires { (Ready a) × (PlaceReached (road_in a) p x) }
-    ensures { PlaceFound (road_in a) result x }
+pub fn moved(road: &AcceptedRoad, p: Place, x: u64) -> Place
+    requires { PlaceReached road.now p x }
+    ensures { PlaceFound road.now result x }
 {
-    let e = p.element;
-    let t = p.profile;
-    let c = p.crossfall;
-    let element = element_on(a, e, x);
-    let profile = profile_on(a, t, x);
-    let crossfall = crossfall_on(a, c, x);
     Place {
-        element,
-        profile,
-        crossfall,
+        element: element_on(road, p.element, x),
+        profile: profile_on(road, p.profile, x),
+        crossfall: crossfall_on(road, p.crossfall, x),
     }
 }
 
 // ---- the view
 
 // The place of x, the segment there, and the next joint.
-pub fn view_at(a: Alignment, p: Place, x: u64, lane: u32) -> View
-    requires ready { Ready a }
-    requires reached { PlaceReached (road_in a) p x }
-    requires on_road { x ≤ total (road_in a) }
-    requires lane_is { lane ≡ lane_width (road_in a) }
-    ensures { Viewed (road_in a) result x }
+pub fn view_at(road: &AcceptedRoad, p: Place, x: u64) -> View
+    requires reached { PlaceReached road.now p x }
+    requires on_road { x ≤ total road.now }
+    ensures { Viewed road.now result x }
 {
-    let place = moved(a, p, x);
+    let lane = road.lane();
+    let place = moved(road, p, x);
     let e = place.element;
-    let t = place.profile;
+    let piece = place.profile.piece;
     let c = place.crossfall;
-    let piece = t.piece;
     let joint = segment_parts::joint_of(piece.end, e.end, c.end, x);
     let segment = segment_parts::segment_of(piece, c.sides, e.curvature, e.begin, lane);
     View {
