@@ -5,7 +5,7 @@
 ghost use Rattle.std.specs.Prelude.{◌≡◌, ℕ, ◌<◌, slice_index};
 ghost use Rattle.road.specs.Limits.{speed, table, handbook, cell, is_old, radius_min_at, clothoid_at, limits_at, limits_of};
 
-use road::{Contract, Head, LeastClothoid, Limits};
+use road::{Class, Contract, Head, LeastClothoid, Limits, Terrain};
 
 // The mark for "-", "no such rule".
 pub const NO_RULE: u32 = 4294967295;
@@ -49,7 +49,7 @@ pub const HANDBOOK: [[u32; 2]; 7] = [
 // The first day of the rule book in force; contracts before it are under the old handbook.
 pub const IN_FORCE_FROM: u32 = 20120101;
 
-// Speed in km/h by terrain 1, 2, 3, classes 1 to 4.
+// Speed in km/h: a row for each class, a column for each terrain.
 pub const SPEEDS: [[u32; 3]; 4] = [[100, 100, 80], [100, 80, 70], [80, 60, 50], [60, 50, 40]];
 
 // The crossfalls of refusal 17, and that of refusal 19 on both sides, unsigned; in ppm, at every speed.
@@ -114,17 +114,12 @@ pub fn limits_at(speed: u32, contract: Contract) -> Limits
     }
 }
 
-// The speed of a class and a terrain; 0 past the table.
-pub fn speed_of(class: u32, terrain: u32) -> u32
+// The speed of a class and a terrain.
+#[tactic(auto, unfolding(road::specs::Limits::speed))]
+pub fn speed_of(class: Class, terrain: Terrain) -> u32
     ensures { result ≡ speed class terrain }
 {
-    let row = class.saturating_sub(1) as usize;
-    let column = terrain.saturating_sub(1) as usize;
-    if row < 4 {
-        if column < 3 { SPEEDS[row][column] } else { 0 }
-    } else {
-        0
-    }
+    SPEEDS[class.row()][terrain.column()]
 }
 
 // The limits of a road, from its head.
