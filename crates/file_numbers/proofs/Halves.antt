@@ -1,19 +1,15 @@
 -- The half of a number and its lowest bit, as the code takes a signed value apart and together. Assumes nothing.
 use mathlib.Core.Path.{◌≡◌, refl, sym, ap, ◌∙◌}
-use mathlib.Core.Bool.{Bool, true, false, ◌&&◌, true≢false}
-use Prim.Native.Nat.{ℕ, zero, suc, ◌+◌, ◌*◌, ◌/◌, ◌%◌, ◌^◌, ◌<◌, ◌≤◌}
-use Prim.Native.Nat.compare
+use mathlib.Core.Bool.{true, false, true≢false}
+use Prim.Native.Nat.{ℕ, zero, suc, ◌*◌, ◌/◌, ◌%◌, ◌^◌, ◌<◌}
 use native.Mathlib.Omega.{arith}
-use lib.Dec.{leb, ltb, is_le}
-use borrow.Author.Tests.{le-leb, lt-leb, le-ltb, ltb-true}
-use lib.IntN.{ℤ, pos, negsuc, neg_ℤ, nat_abs, ◌-ℤ◌}
-use lib.Signed.{le_z, lt_z, mag}
+use borrow.Author.Tests.{le-ltb, ltb-true}
+use lib.IntN.{ℤ, pos, negsuc, ◌-ℤ◌}
+use lib.Signed.{lt_z, mag}
 use lib.Bits.{bit_and, and_mask}
 use mir.Syntax.{w32}
 use mir.Val.{SFits, to_z, of_z}
 use mir.Facts.{to_z_pos, to_z-of_z}
-use Rattle.file_numbers.specs.Number.{signed_of}
-use Rattle.file_numbers.specs.Signed.{even_is, odd_is}
 
 pub low_bit : (n : ℕ) → bit_and n 1 ≡ n % 2
 low_bit n = and_mask n 1
@@ -39,47 +35,6 @@ odd_computed n h = ap (λ (z : ℤ). negsuc 0 -ℤ z) (half_is n h) ∙ minus_on
 
 pub odd_fits : (n : ℕ) → n < 2 ^ 32 → SFits w32 (negsuc (n / 2))
 odd_fits n h = record { sfits = omega arith }
-
--- from −low to high, for a value that is not negative and for one that is
-abbrev pub within : ℕ → ℕ → ℤ → Bool
-within low high v = le_z (neg_ℤ (pos low)) v && le_z v (pos high)
-
-pub within-pos : (low high n : ℕ) → within low high (pos n) ≡ leb n high
-within-pos zero high n = simp (le-leb 0 n (omega arith))
-within-pos (suc low) high n = refl
-
-pub within-neg : (low high n : ℕ) → within low high (negsuc n) ≡ ltb n low
-within-neg zero high n = sym (le-ltb n 0 (omega arith))
-within-neg (suc low) high n = and_true (leb n low) ∙ ap is_le (sym (compare.suc-suc n low))
-  where
-    and_true : (t : Bool) → (t && true) ≡ t
-    and_true true = refl
-    and_true false = refl
-
--- the size of the signed value
-size_is : (n : ℕ) → n / 2 + bit_and n 1 ≡ nat_abs (signed_of n)
-size_is n = go (n % 2) refl
-  where
-    go : (r : ℕ) → n % 2 ≡ r → n / 2 + bit_and n 1 ≡ nat_abs (signed_of n)
-    go zero e = let l = low_bit n in let h : n / 2 + bit_and n 1 ≡ n / 2 = omega arith in h ∙ sym (ap nat_abs (even_is n e))
-    go (suc r) e = let l = low_bit n in let h : n / 2 + bit_and n 1 ≡ suc (n / 2) = omega arith in h ∙ sym (ap nat_abs (odd_is n (omega arith)))
-
--- from low to high in size, by the size that is computed
-module _ (v low high : ℕ) where
-  abbrev computed : ℕ
-  computed = v / 2 + bit_and v 1
-
-  abbrev Sized : Bool
-  Sized = leb low (nat_abs (signed_of v)) && leb (nat_abs (signed_of v)) high
-
-  tested : leb low computed && leb computed high ≡ Sized
-  tested = ap (λ (n : ℕ). leb low n && leb n high) (size_is v)
-
-  pub not_below_lem : low ≤ computed → leb computed high ≡ Sized
-  not_below_lem h = ap (λ (t : Bool). t && leb computed high) (sym (le-leb low computed h)) ∙ tested
-
-  pub below : computed < low → leb low computed ≡ Sized
-  below h = let f = lt-leb low computed h in f ∙ ap (λ (t : Bool). t && leb computed high) (sym f) ∙ tested
 
 -- a negative i32, and one that is not, by its size
 module _ (z : ℤ) (f : SFits w32 z) where

@@ -2,12 +2,13 @@
 use mathlib.Core.Path.{◌≡◌, refl, sym, ap, ap₂, ◌∙◌, subst}
 use mathlib.Core.List.{List}
 use mathlib.Core.Bool.{Bool, true, false, not, ◌&&◌}
-use Rattle.std.specs.Prelude.{Option, None, Some, option_map}
-use Prim.Native.Nat.{ℕ, suc, ◌+◌, ◌*◌, ◌/◌, ◌%◌, ◌^◌, ◌≤◌, ◌<◌}
+use Rattle.std.specs.Prelude.{Option, None, Some, option_map, if◌then◌else◌, slice_range}
+use Prim.Native.Nat.{ℕ, suc, ◌+◌, ◌-◌, ◌*◌, ◌/◌, ◌%◌, ◌^◌, ◌≤◌, ◌<◌}
 use native.Mathlib.Nat.{add-mul, mul_assoc, mul_comm}
 use native.Mathlib.Numerals.{add-one}
 use native.Mathlib.Omega.{arith}
 use lib.ListN.{length, get_or, drop, drop_of_length-le}
+use Rattle.std.proofs.lemmas.List.{take_all, length-drop}
 use lib.Seq.{drop-cons}
 use lib.Arith.{digits_lt}
 use lib.Pow.{shl_exact, pow-add}
@@ -19,7 +20,8 @@ use Rattle.file_numbers.specs.Number.{byte_count, greatest, Groups, lowest, grou
 use Rattle.file_numbers.specs.Bits.{byte_count_most}
 use Rattle.file_numbers.specs.Shape.{grouped, groups-last, groups-more, SomeGroup, some_group}
 use Rattle.file_numbers.specs.Meaning.{meaning}
-use Rattle.file_numbers.specs.Answer.{value_where, answer}
+use Rattle.file_numbers.specs.Answer.{answer}
+use Rattle.file_numbers.specs.declared.Number.{Number}
 
 -- the top bit of a byte
 top_bit : (b : ℕ) → b < 256 → bit_and b 128 ≡ b / 128 * 128
@@ -105,31 +107,44 @@ pub answered : (v n at next : ℕ) → next ≡ at + n → meaning (answer v n n
 unfolding answer
 answered v n at next e = go (sound (grouped v n))
   where
-    go : (t : Bool) → meaning (value_where t v next) at ≡ checked_from t (grouped v n) at
+    go : (t : Bool) → meaning (if t then Some (record { value = v; next = next }) else None) at ≡ checked_from t (grouped v n) at
     go true = ap (got v) e
     go false = refl
 
--- what the groups read so far say of the number at a place: they break off, they end, they go on, they are too many
-module _ (s : List ℕ) (at count value next : ℕ) (so_far : groups (drop at s) ≡ after count value (groups (drop next s))) where
-  from-rest : (r : Option Groups) → groups (drop next s) ≡ r → number s at ≡ number_from (after count value r) at
+-- what the groups read so far of the bytes from a place on say of the number there: they break off, they end, they go on, they are too many
+module _ (s : List ℕ) (at : ℕ) (bytes : List ℕ) (is : bytes ≡ slice_range s at (length s)) (count value : ℕ) (so_far : groups bytes ≡ after count value (groups (drop count bytes))) where
+  from-rest : (r : Option Groups) → groups (drop count bytes) ≡ r → number s at ≡ number_from (after count value r) at
   unfolding number
-  from-rest r e = ap (λ (q : Option Groups). number_from q at) (so_far ∙ ap (after count value) e)
+  from-rest r e =
+      let from : drop at s ≡ bytes = sym (is ∙ take_all (length s - at) (drop at s) (omega (arith, length-drop at s))) in
+      ap (λ (l : List ℕ). number_from (groups l) at) from ∙ ap (λ (q : Option Groups). number_from q at) (so_far ∙ ap (after count value) e)
 
-  pub breaks-off : length s ≤ next → refused 2 at ≡ number s at
-  breaks-off h = sym (from-rest None (groups_none s next h))
-
-  pub ends : (v : ℕ) → v ≡ get_or s next 0 % 128 * 2 ^ (7 * count) + value → next ≡ at + count → next < length s → leb 128 (get_or s next 0) ≡ false → meaning (answer v (count + 1) (next + 1)) at ≡ number s at
-  ends v e p h t =
-      answered v (count + 1) at (next + 1) (omega arith)
-      ∙ ap (λ (g : Groups). checked_from (sound g) g at) (ap (λ (x : ℕ). grouped x (count + 1)) (e ∙ ap (λ (x : ℕ). x * 2 ^ (7 * count) + value) small))
-      ∙ sym (from-rest _ (groups-end s next h t))
-    where
-      small : get_or s next 0 % 128 ≡ get_or s next 0
-      small = omega (arith, leb-false 128 (get_or s next 0) t)
-
-  pub goes_on : next < length s → leb 128 (get_or s next 0) ≡ true → groups (drop at s) ≡ after (count + 1) (get_or s next 0 % 128 * 2 ^ (7 * count) + value) (groups (drop (next + 1) s))
-  goes_on h t = so_far ∙ ap (after count value) (groups-on s next h t) ∙ after-lowest count value (get_or s next 0 % 128) (groups (drop (next + 1) s))
+  pub breaks-off : (r : Option Number) → r ≡ None → length bytes ≤ count → meaning r at ≡ number s at
+  breaks-off r e h = ap (λ (n : Option Number). meaning n at) e ∙ sym (from-rest None (groups_none bytes count h))
 
   pub too_many_groups : count ≡ 5 → refused 2 at ≡ number s at
   too_many_groups e =
-      sym (from-rest _ refl ∙ ap (λ (n : ℕ). number_from (after n value (groups (drop next s))) at) e ∙ too_long value at (groups (drop next s)) (some_group (drop next s)))
+      sym (from-rest _ refl ∙ ap (λ (n : ℕ). number_from (after n value (groups (drop count bytes))) at) e ∙ too_long value at (groups (drop count bytes)) (some_group (drop count bytes)))
+
+  -- the next byte, its group, and the group put above the others
+  module _ (b g v : ℕ) (byte : b ≡ get_or bytes count 0) (low : g ≡ b % 128) (joined : v ≡ g * 2 ^ (7 * count) + value) (inside : count < length bytes) where
+    pub ends : leb 128 b ≡ false → (r : Option Number) → r ≡ answer v (count + 1) (at + count + 1) → meaning r at ≡ number s at
+    ends t r e =
+        let small : g ≡ get_or bytes count 0 = omega (arith, leb-false 128 b t) in
+        ap (λ (n : Option Number). meaning n at) e
+        ∙ answered v (count + 1) at (at + count + 1) (omega arith)
+        ∙ ap (λ (x : ℕ). checked_from (sound (grouped x (count + 1))) (grouped x (count + 1)) at) (joined ∙ ap (λ (x : ℕ). x * 2 ^ (7 * count) + value) small)
+        ∙ sym (from-rest _ (groups-end bytes count inside (ap (leb 128) (sym byte) ∙ t)))
+
+    pub goes_on : leb 128 b ≡ true → groups bytes ≡ after (count + 1) v (groups (drop (count + 1) bytes))
+    goes_on t =
+        let same : get_or bytes count 0 % 128 ≡ g = omega arith in
+        so_far
+        ∙ ap (after count value) (groups-on bytes count inside (ap (leb 128) (sym byte) ∙ t) ∙ ap (λ (x : ℕ). option_map (lowest x) (groups (drop (count + 1) bytes))) same)
+        ∙ after-lowest count value g (groups (drop (count + 1) bytes))
+        ∙ ap (λ (x : ℕ). after (count + 1) x (groups (drop (count + 1) bytes))) (sym joined)
+
+-- no number stands behind the last byte
+pub behind-the-end : (s : List ℕ) (at : ℕ) (r : Option Number) → r ≡ None → length s ≤ at → meaning r at ≡ number s at
+unfolding number
+behind-the-end s at r e h = ap (λ (n : Option Number). meaning n at) e ∙ ap (λ (q : Option Groups). number_from q at) (sym (groups_none s at h))

@@ -2,25 +2,23 @@
 
 #![tactic(auto)]
 
-ghost use Rattle.std.specs.Prelude.{◌≡◌, ◌&&◌, ◌+◌, ◌*◌, ◌^◌, ◌%◌, ◌<◌, leb, pos, neg_ℤ, nat_abs};
-ghost use Rattle.std.specs.Int.Signed.{le_z};
+ghost use Rattle.std.specs.Prelude.{◌≡◌, ◌+◌, ◌*◌, ◌^◌, ◌%◌, ◌<◌, leb};
 ghost use Rattle.file_numbers.specs.Number.{byte_count, number, signed_of, written};
 ghost use Rattle.file_numbers.specs.Meaning.{meaning};
 ghost use Rattle.file_numbers.specs.Answer.{answer};
 
-// What stands at a place of the file: a number and the place after it, or none.
+// A number of the file and the place after it.
 #[derive(Clone, Copy)]
-pub enum Number {
-    Value(u32, usize),
-    Faulty,
+pub struct Number {
+    pub value: u32,
+    pub next: usize,
 }
 
 // How many bytes a number takes in its shortest form.
 pub fn byte_count(v: u32) -> u32
     ensures { result ≡ byte_count v }
 {
-    let bits = 32 - u32::leading_zeros(v);
-    if bits == 0 { 1 } else { (bits + 6) / 7 }
+    (32 - v.leading_zeros()).div_ceil(7).max(1)
 }
 
 // Whether the top bit says that more bytes follow.
@@ -34,7 +32,7 @@ fn continues(b: u8) -> bool
 fn group(b: u8) -> u64
     ensures { result ≡ b % 128 }
 {
-    (b & 127) as u64
+    u64::from(b & 127)
 }
 
 // A group put above the first `count` groups.
@@ -46,40 +44,28 @@ fn joined(value: u64, count: u32, g: u64) -> u64
 }
 
 // The number that groups make, where they are its shortest form and it is not too great.
-fn finished(value: u64, count: u32, next: usize) -> Number
+#[tactic(auto, unfolding(crate::specs::Answer::answer, crate::specs::Number::sound))]
+fn finished(value: u64, count: u32, next: usize) -> Option<Number>
     ensures { result ≡ answer value count next }
 {
-    if value > 4294967295 {
-        return Number::Faulty;
-    }
-    let v = value as u32;
-    if count == byte_count(v) {
-        Number::Value(v, next)
-    } else {
-        Number::Faulty
-    }
+    let value = u32::try_from(value).ok()?;
+    (count == byte_count(value)).then_some(Number { value, next })
 }
 
 // The number at a place of the file.
-pub fn read_number(file: &[u8], at: usize) -> Number
+pub fn read_number(file: &[u8], at: usize) -> Option<Number>
     ensures { meaning result at ≡ number file.now at }
 {
-    let mut value: u64 = 0;
-    let mut count: u32 = 0;
-    let mut next = at;
-    while count < 5 {
-        if file.len() <= next {
-            return Number::Faulty;
-        }
-        let b = file[next];
-        value = joined(value, count, group(b));
-        count = count + 1;
-        next = next + 1;
+    let bytes = file.get(at..)?;
+    let mut value = 0;
+    for count in 0..5 {
+        let b = *bytes.get(count)?;
+        value = joined(value, count as u32, group(b));
         if !continues(b) {
-            return finished(value, count, next);
+            return finished(value, count as u32 + 1, at + count + 1);
         }
     }
-    Number::Faulty
+    None
 }
 
 // The signed value that a number is written for.
@@ -101,20 +87,4 @@ pub fn written_as(v: i32) -> u32
         let half = v as u32;
         half << 1
     }
-}
-
-// Whether the signed value that a number is written for lies from -low to high.
-pub fn signed_within(v: u32, low: u32, high: u32) -> bool
-    ensures { result ≡ (le_z (neg_ℤ (pos low)) (signed_of v) && le_z (signed_of v) (pos high)) }
-{
-    let half = v >> 1;
-    if v & 1 == 0 { half <= high } else { half < low }
-}
-
-// Whether the signed value that a number is written for is from low to high in size.
-pub fn size_within(v: u32, low: u32, high: u32) -> bool
-    ensures { result ≡ (leb low (nat_abs (signed_of v)) && leb (nat_abs (signed_of v)) high) }
-{
-    let size = (v >> 1) + (v & 1);
-    low <= size && size <= high
 }

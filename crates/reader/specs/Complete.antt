@@ -1,42 +1,43 @@
--- `ThreeRead` is met, and by one struct of three numbers alone: its three equations leave nothing open.
-use Rattle.std.specs.Prelude.{◌≡◌, refl, List, [], ◌∷◌, ℕ}
+-- `Passes` is met, and by one number and one place alone: its equations leave nothing open.
+use Rattle.std.specs.Prelude.{◌≡◌, refl, List, [], ◌∷◌, ℕ, Option, Some, None}
 use Rattle.std.proofs.Common.{sym, ap, ◌∙◌}
-use Rattle.file_numbers.specs.Reading.{Got, got, refused}
 use Rattle.file_numbers.specs.Number.{bits_in, bits, byte_count, groups, sound, number}
-use Rattle.file_numbers.specs.Meaning.{meaning}
-use Rattle.file_numbers.specs.declared.Number.{Number}
-use Rattle.file_numbers.specs.declared.Number.TheVariants.{Value, Faulty}
-use Rattle.reader.specs.declared.ThreeNumbers.{ThreeNumbers}
-use Rattle.reader.specs.Following.{place_after, ThreeRead}
+use Rattle.reader.specs.Standing.{Standing, said, Passes, value_there}
+
+abbrev at : List ℕ → ℕ → Standing
+at bytes place = record { bytes = bytes; place = place }
 
 -- 7, 300 in two bytes, 0
-pub one_behind_another : ThreeRead (0x07 ∷ 0xAC ∷ 0x02 ∷ 0x00 ∷ []) 0 (record { first = Value 7 1; second = Value 300 3; third = Value 0 4 })
+abbrev three : List ℕ
+three = 0x07 ∷ 0xAC ∷ 0x02 ∷ 0x00 ∷ []
+
+pub one_behind_another : Passes (at three 0) (at three 1) (Some 7) × Passes (at three 1) (at three 3) (Some 300) × Passes (at three 3) (at three 4) (Some 0)
 unfolding number groups sound byte_count bits bits_in
-one_behind_another = record { first = refl; second = refl; third = refl }
+one_behind_another =
+    (record { bytes = refl; number = refl; stays = λ e. cc }, record { bytes = refl; number = refl; stays = λ e. cc }, record { bytes = refl; number = refl; stays = λ e. cc })
 
 -- a second number that breaks off: it is not passed
-pub broken-off : ThreeRead (0x07 ∷ 0xAC ∷ []) 0 (record { first = Value 7 1; second = Faulty; third = Faulty })
+abbrev broken : List ℕ
+broken = 0x07 ∷ 0xAC ∷ []
+
+pub broken-off : Passes (at broken 0) (at broken 1) (Some 7) × Passes (at broken 1) (at broken 1) None
 unfolding number groups sound byte_count bits bits_in
-broken-off = record { first = refl; second = refl; third = refl }
+broken-off = (record { bytes = refl; number = refl; stays = λ e. cc }, record { bytes = refl; number = refl; stays = λ _. refl })
 
--- the number that an answer stands for
-number_of : Got ℕ → Number
-number_of (got v next) = Value v next
-number_of (refused n p) = Faulty
+one_place : (read : Option ℕ) (place a b : ℕ) → said read place a ≡ said read place b → (read ≡ None → a ≡ place) → (read ≡ None → b ≡ place) → a ≡ b
+one_place (Some v) place a b e p q = cc
+one_place None place a b e p q = p refl ∙ sym (q refl)
 
-meant : (t : Number) (at : ℕ) → number_of (meaning t at) ≡ t
-unfolding number_of
-meant (Value v next) at = refl
-meant Faulty at = refl
+back : (read : Option ℕ) (place next : ℕ) → value_there (said read place next) ≡ read
+back (Some v) place next = refl
+back None place next = refl
 
--- two numbers that say what stands at one place are one
-one_number : (s : List ℕ) (t t' : Number) (at at' : ℕ) → at ≡ at' → meaning t at ≡ number s at → meaning t' at' ≡ number s at' → t ≡ t'
-one_number s t t' at at' e read read' = sym (meant t at) ∙ ap number_of (read ∙ ap (number s) e ∙ sym read') ∙ meant t' at'
+module _ {before after after' : Standing} {read read' : Option ℕ} (one : Passes before after read) (other : Passes before after' read') where
+  pub one-number : read ≡ read'
+  one-number = sym (back read before.place after.place) ∙ ap value_there (one.number ∙ sym other.number) ∙ back read' before.place after'.place
 
-pub one-three : {s : List ℕ} {at : ℕ} {t t' : ThreeNumbers} → ThreeRead s at t → ThreeRead s at t' → t ≡ t'
-one-three {s} {at} {t} {t'} read read' =
-    let first : t.first ≡ t'.first = one_number s t.first t'.first at at refl read.first read'.first in
-    let after : place_after t.first at ≡ place_after t'.first at = λ i. place_after (first i) at in
-    let second : t.second ≡ t'.second = one_number s t.second t'.second (place_after t.first at) (place_after t'.first at) after read.second read'.second in
-    let third : t.third ≡ t'.third = one_number s t.third t'.third (place_after t.second (place_after t.first at)) (place_after t'.second (place_after t'.first at)) (λ i. place_after (second i) (after i)) read.third read'.third in
-    λ i. record { first = first i; second = second i; third = third i }
+  pub one-standing : after ≡ after'
+  one-standing =
+      let place : after.place ≡ after'.place = one_place read before.place after.place after'.place (one.number ∙ sym (rw one-number other.number)) one.stays (λ e. other.stays (sym one-number ∙ e)) in
+      let bytes : after.bytes ≡ after'.bytes = one.bytes ∙ sym other.bytes in
+      λ i. record { bytes = bytes i; place = place i }

@@ -1,2 +1,2 @@
-pub mod Following
+pub mod Standing
 pub mod Complete

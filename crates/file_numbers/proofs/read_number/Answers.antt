@@ -1,30 +1,36 @@
--- The groups of the file are those read so far and those that still follow: the loop ends where the file breaks off, at the last group, or after five of them.
-use mathlib.Core.Path.{◌≡◌, sym, ap, ◌∙◌}
-use Prim.Native.Nat.{ℕ, ◌+◌, ◌*◌, ◌^◌}
+-- Each turn's groups go on, end, break off, or are too many, by the laws of the groups read so far.
+use mathlib.Core.Path.{sym}
 use native.Mathlib.Omega.{arith}
-use Rattle.file_numbers.specs.declared.Number.{Number}
-use Rattle.file_numbers.specs.Meaning.{meaning}
-use Rattle.file_numbers.proofs.Laws.{after_none, joined_lt, breaks-off, ends, goes_on, too_many_groups}
+use borrow.Author.Tests.{ltb-false}
+use Rattle.file_numbers.proofs.Laws.{joined_lt, breaks-off, ends, goes_on, too_many_groups, behind-the-end}
 use Rattle.file_numbers.proofs.read_number.Goals as goal
 
-pub returns-then-file-next : goal.returns-then-file-next
-returns-then-file-next c = let l = c.loop-count in breaks-off _ _ _ _ _ l.invariant.3 c.if-file-next.true
+pub returns-in_err-bytes : goal.returns-in_err-bytes
+returns-in_err-bytes c = let a = c.args in behind-the-end a.file.now a.at _ c.from_residual.ensures (omega (arith, c.in_err-bytes.ensures.lookup.0))
+
+pub returns-in_err-b : goal.returns-in_err-b
+returns-in_err-b c =
+    let a = c.args in
+    let l = c.loop-count in
+    breaks-off a.file.now a.at _ c.in_ok-bytes.ensures.lookup.0.2 l.count l.value l.invariant.so_far _ c.from_residual-in_err-b.ensures (ltb-false _ _ (sym c.in_err-b.ensures.lookup.0))
 
 pub returns-then-not-continues : goal.returns-then-not-continues
 returns-then-not-continues c =
-    let l = c.loop-count in
     let a = c.args in
-    ap (λ (n : Number). meaning n a.at) c.finished.ensures ∙ ends a.file.now a.at l.count l.value l.next l.invariant.3 _ (c.joined-value.ensures ∙ ap (λ (g : ℕ). g * 2 ^ (7 * l.count) + l.value) c.group.ensures) l.invariant.1 (omega arith) (sym c.continues.ensures ∙ c.if-not-continues.true)
+    let l = c.loop-count in
+    let read = c.in_ok-b.ensures.lookup.3 in
+    ends a.file.now a.at _ c.in_ok-bytes.ensures.lookup.0.2 l.count l.value l.invariant.so_far _ _ _ (read.1 0) c.group.ensures c.joined-value.ensures read.0 (sym c.if-not-continues.ensures) _ c.finished.ensures
 
 pub loop-count-preserved : goal.loop-count-preserved
 loop-count-preserved c =
-    let l = c.loop-count in
     let a = c.args in
-    let v : c.joined-value.result ≡ _ = c.joined-value.ensures ∙ ap (λ (g : ℕ). g * 2 ^ (7 * l.count) + l.value) c.group.ensures in
-    (omega arith, omega arith, rw v (joined_lt _ _ _ l.invariant.2 (omega arith)), rw v (goes_on a.file.now a.at l.count l.value l.next l.invariant.3 (omega arith) (sym c.continues.ensures ∙ c.if-not-continues.false)))
+    let l = c.loop-count in
+    let read = c.in_ok-b.ensures.lookup.3 in
+    let b = c.in_ok-b.field-0.now in
+    record {
+      below = rw c.joined-value.ensures (joined_lt l.count l.value c.group.result l.invariant.below (omega arith));
+      so_far = goes_on a.file.now a.at _ c.in_ok-bytes.ensures.lookup.0.2 l.count l.value l.invariant.so_far _ _ _ (read.1 0) c.group.ensures c.joined-value.ensures read.0 (sym c.if-not-continues.ensures);
+    }
 
 pub returns : goal.returns
-returns c = let l = c.loop-count in too_many_groups _ _ l.count l.value l.next l.invariant.3 (omega arith)
-
-pub loop-count-init : goal.loop-count-init
-loop-count-init c = (omega arith, omega arith, omega arith, after_none _)
+returns c = let a = c.args in let l = c.loop-count in too_many_groups a.file.now a.at _ c.in_ok-bytes.ensures.lookup.0.2 l.count l.value l.invariant.so_far (omega arith)
