@@ -1,3 +1,3 @@
-pub mod Least
-pub mod Counting
+pub mod Search
 pub mod Multiples
+pub mod Along
