@@ -9,7 +9,7 @@ ghost use Rattle.cursors.specs.Places.{Reached, ElementReached, ElementFound, Ta
 ghost use Rattle.cursors.specs.View.{Viewed};
 
 use accepted_road::AcceptedRoad;
-use road::{Element, Tangent};
+use road::{Element, Kind, Tangent};
 use segment::Segment;
 use segment_parts::{Curvature, Piece, Sides, TangentPlace};
 
@@ -55,7 +55,7 @@ pub struct View {
 
 // Past either end of a list stands the blank item.
 const BLANK_ELEMENT: Element = Element {
-    kind: 0,
+    kind: Kind::Straight,
     length: 0,
     radius: 0,
 };

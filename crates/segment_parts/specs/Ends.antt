@@ -1,7 +1,7 @@
 -- The curvature at the ends of an element, from the element and those beside it.
-use Rattle.std.specs.Prelude.{◌≡◌, refl, ℕ, suc, eqb, ℤ, pos, negsuc, nat_abs, if◌then◌else◌}
+use Rattle.std.specs.Prelude.{◌≡◌, refl, ℕ, suc, ℤ, pos, negsuc, nat_abs, if◌then◌else◌}
 use Rattle.road.specs.File.{Road}
-use Rattle.road.specs.Exact.{element_of}
+use Rattle.road.specs.Exact.{element_of, is_arc, is_clothoid}
 use Rattle.road.specs.Rules.{element_before}
 use Rattle.road.specs.declared.Element.{Element}
 use Rattle.segment.specs.declared.End.{End}
@@ -18,12 +18,12 @@ turned-size (negsuc n) = refl
 
 -- what an element has at its ends, and gives to a clothoid beside it: an arc its own curvature, any other 0
 abbrev pub end_of : Element → End
-end_of e = if eqb e.kind 1 then record { turn = turned e.radius; radius = pos (nat_abs e.radius) } else record { turn = pos 0; radius = pos 1 }
+end_of e = if is_arc e then record { turn = turned e.radius; radius = pos (nat_abs e.radius) } else record { turn = pos 0; radius = pos 1 }
 
 -- a clothoid has at each end what stands beside it
 abbrev pub curvature_of : (before e after : Element) → Curvature
 curvature_of before e after =
-    if eqb e.kind 2 then record { length = pos e.length; start = end_of before; end = end_of after }
+    if is_clothoid e then record { length = pos e.length; start = end_of before; end = end_of after }
     else record { length = pos e.length; start = end_of e; end = end_of e }
 
 -- the curvature of element i of a road

@@ -236,7 +236,7 @@ pub fn sides_of(c: Crossfall, d: Crossfall) -> Sides
 fn end_of(e: Element) -> End
     ensures { result ≡ end_of e }
 {
-    if e.kind != 1 {
+    if !e.is_arc() {
         return End { turn: 0, radius: 1 };
     }
     let turn = turn(e.radius);
@@ -248,7 +248,7 @@ fn end_of(e: Element) -> End
 pub fn curvature_of(before: Element, e: Element, after: Element) -> Curvature
     ensures { result ≡ curvature_of before e after }
 {
-    if e.kind == 2 {
+    if e.is_clothoid() {
         let start = end_of(before);
         let end = end_of(after);
         return Curvature {
