@@ -1,6 +1,6 @@
 -- Refusal 9: the arcs before and after a straight, where the plan is in its order.
 use Rattle.std.specs.Prelude.{◌≡◌, refl, Bool, true, false, List, [], ◌∷◌, ℕ, zero, suc, ◌<◌, ◌≤◌, length, take, drop, get_or, if◌then◌else◌}
-use Rattle.std.proofs.Common.{sym, ap, ◌∙◌, arith, eqb-true, take-suc, drop-cons}
+use Rattle.std.proofs.Common.{sym, ap, ◌∙◌, arith, take-suc, drop-cons}
 use Rattle.std.proofs.lemmas.List.{reverse-append}
 use Rattle.std.proofs.Math.Decide.{dec_lt}
 use Rattle.std.proofs.Math.ListN.{get_or-eq_default}
@@ -8,8 +8,10 @@ use Rattle.road.specs.File.{Road}
 use Rattle.road.specs.declared.Limits.{Limits}
 use Rattle.road.specs.Exact.{blank_element, element_of, is_straight, is_arc}
 use Rattle.road.specs.Rules.{first_arc, arc_before, arc_after, short_straight}
+use Rattle.laws_of_acceptance.specs.OfKind.{is-straight-kind}
 use Rattle.laws_of_acceptance.specs.PlanOrder.{PlanOrder, BendBefore, Stands}
 use Rattle.road.specs.declared.Element.{Element}
+use Rattle.road.specs.declared.Kind.TheVariants.{Straight, Arc, Clothoid}
 
 -- the arc before, one element on
 arc-step : (r : Road) (i : ℕ) → i < length r.plan → arc_before r (suc i) ≡ (if is_arc (element_of r i) then (element_of r i).radius else arc_before r i)
@@ -38,16 +40,16 @@ arc-past : (l : List Element) (i : ℕ) → length l ≤ i → first_arc (drop i
 unfolding first_arc
 arc-past l i h = rw (drop_past l i h, get_or-eq_default l blank_element h)
 
-arc-at : (l : List Element) (i : ℕ) → i < length l → (get_or l i blank_element).kind ≡ 1 → first_arc (drop i l) ≡ (get_or l i blank_element).radius
+arc-at : (l : List Element) (i : ℕ) → i < length l → (get_or l i blank_element).kind ≡ Arc → first_arc (drop i l) ≡ (get_or l i blank_element).radius
 unfolding first_arc
 arc-at l i h k = rw (drop-cons l i blank_element h) (rw k)
 
-no_arc_at : (l : List Element) (i : ℕ) → i < length l → (get_or l i blank_element).kind ≡ 2 → first_arc (drop i l) ≡ first_arc (drop (suc i) l)
+no_arc_at : (l : List Element) (i : ℕ) → i < length l → (get_or l i blank_element).kind ≡ Clothoid → first_arc (drop i l) ≡ first_arc (drop (suc i) l)
 unfolding first_arc
 no_arc_at l i h k = rw (drop-cons l i blank_element h) (rw k)
 
 -- a straight leads into a clothoid, and that into an arc; past the last straight there is none
-module _ (r : Road) (order : PlanOrder r) (i : ℕ) (straight : Stands r 0 i) where
+module _ (r : Road) (order : PlanOrder r) (i : ℕ) (straight : Stands r Straight i) where
   pub after_is : arc_after r i ≡ (element_of r (suc (suc i))).radius
   after_is = go (dec_lt (suc i) (length r.plan))
     where
@@ -65,5 +67,5 @@ unfolding short_straight
 straight-test l r order i before {e} {after} h a b c = go (is_straight (element_of r i)) refl
   where
     go : (t : Bool) → is_straight (element_of r i) ≡ t → short_straight l before.radius e after.radius ≡ short_straight l (arc_before r i) (element_of r i) (arc_after r i)
-    go true t = rw (b, a, c, after_is r order i (record { within = h; is = eqb-true (element_of r i).kind 0 t }))
+    go true t = rw (b, a, c, after_is r order i (record { within = h; is = is-straight-kind (element_of r i).kind t }))
     go false t = rw (b, t)

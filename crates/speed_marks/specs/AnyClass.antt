@@ -3,6 +3,8 @@ use Rattle.std.specs.Prelude.{◌≡◌, Bool, ℕ, Option, None, Some}
 use Rattle.std.proofs.Math.Path.{refl, ap, ap₂}
 use mathlib.Core.List.{List, [], ◌∷◌, map}
 use Rattle.road.specs.File.{Road}
+use Rattle.road.specs.declared.Class.{Class}
+use Rattle.road.specs.declared.Terrain.{Terrain}
 use Rattle.road.specs.declared.Limits.{Limits}
 use Rattle.road.specs.Exact.{element_start, tangent_start, total, point_at}
 use Rattle.road.specs.Rules.{Verdict, breaks, other_total, changes_on, wrong_superelevation, road_test, order, first_broken, judge, judged}
@@ -11,7 +13,7 @@ use Rattle.road.specs.declared.Rule.TheVariants as rule
 use Rattle.speed_marks.specs.Marks.{tried_speeds, limits_with, is_passed, stands, set_of, marks}
 
 -- a road in another class and terrain
-abbrev pub in_class : (class terrain : ℕ) → Road → Road
+abbrev pub in_class : Class → Terrain → Road → Road
 in_class class terrain r = record {
   head = record { contract = r.head.contract; class = class; terrain = terrain; step = r.head.step; ramp = r.head.ramp };
   plan = r.plan;
@@ -25,7 +27,7 @@ same_each : (f g : ℕ → Bool) → ((v : ℕ) → f v ≡ g v) → (speeds : L
 same_each f g same [] = refl
 same_each f g same (v ∷ later) = ap₂ (λ (m : Bool) (l : List Bool). m ∷ l) (same v) (same_each f g same later)
 
-module _ (class terrain : ℕ) (r : Road) where
+module _ (class : Class) (terrain : Terrain) (r : Road) where
   same_rule : (x : Rule) (l : Limits) → first_broken x l (in_class class terrain r) ≡ first_broken x l r
   unfolding first_broken other_total wrong_superelevation changes_on element_start tangent_start total point_at
   same_rule (rule.Element x) l = refl
