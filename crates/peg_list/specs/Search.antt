@@ -1,18 +1,13 @@
 -- The first bad peg, as it is searched for; where there is none, all pegs are good.
-use Prim.Native.Nat.{ℕ, zero, suc, ◌≤◌, ◌<◌}
-use Rattle.std.specs.Prelude.{◌≡◌, Bool, true, false, ◌||◌, List, length, ltb, Option, None, Some}
+use Prim.Native.Nat.{ℕ, zero, suc, ◌+◌, ◌≤◌, ◌<◌}
+use Rattle.std.specs.Prelude.{◌≡◌, Bool, true, false, ◌||◌, List, ◌∷◌, length, get_or, ltb, Option, None, Some}
 use Rattle.std.proofs.Math.Path.{refl, sym}
-use Rattle.std.proofs.Common.{ap, ◌∙◌, arith}
-use borrow.Author.Tests.{le-ltb, ltb-false, lt-leb, leb-true, leb-false}
+use Rattle.std.proofs.Common.{◌∙◌, arith, add-one, below_more}
+use borrow.Author.Tests.{le-ltb, lt-ltb, le-leb, ltb-false, lt-leb, leb-true, leb-false}
 use Rattle.std.proofs.Math.Dec.{leb}
-use Rattle.laws_of_lists.specs.Tests.{or_left, or_right}
+use Rattle.laws_of_lists.specs.Tests.{or_left, or_right, or_true}
 use Rattle.laws_of_search.specs.Searches.{first_some, first-none, first-clear, first_at_some}
 use Rattle.peg_list.specs.Pegs.{peg_at, falls, is_bad, first_bad}
-
--- the place found; how many pegs there are where none is
-abbrev pub or_count : List ℕ → Option ℕ → ℕ
-or_count pegs (Some i) = i
-or_count pegs None = length pegs
 
 -- no more than 2,000, ascending, up to T
 pub record Good (T : ℕ) (pegs : List ℕ) : Type 0 where
@@ -21,33 +16,47 @@ pub record Good (T : ℕ) (pegs : List ℕ) : Type 0 where
   pub within : (i : ℕ) → i < length pegs → peg_at pegs i ≤ T
 
 module _ (T : ℕ) (pegs : List ℕ) where
-  -- none of the first i is bad
-  abbrev pub NoneBefore : ℕ → Type 0
-  NoneBefore i = (j : ℕ) → j < i → is_bad T pegs j ≡ false
+  -- none of the first i is bad; `last` is the one before peg i, or 0
+  pub record Passed (i last : ℕ) : Type 0 where
+    pub before : (j : ℕ) → j < i → is_bad T pegs j ≡ false
+    pub last_is : last ≡ get_or (0 ∷ pegs) i 0
 
-  pub bad_found : (i : ℕ) → i < length pegs → NoneBefore i → is_bad T pegs i ≡ true → i ≡ or_count pegs (first_bad T pegs)
-  unfolding first_bad
-  bad_found i h before bad = sym (ap (or_count pegs) (first_at_some (is_bad T pegs) (length pegs) i (record { place = h; bad = bad; before = before })))
+  pub passed_none : Passed 0 0
+  passed_none = record { before = λ j h. absurd (omega arith); last_is = refl }
 
-  pub none-bad : (i : ℕ) → i ≡ length pegs → NoneBefore i → i ≡ or_count pegs (first_bad T pegs)
-  unfolding first_bad
-  none-bad i e before = e ∙ sym (ap (or_count pegs) (first-clear (is_bad T pegs) (length pegs) (λ j h. before j (omega arith))))
+  module _ (i last : ℕ) (p : Passed i last) where
+    tests : is_bad T pegs i ≡ (ltb (peg_at pegs i) last || leb 2000 i || ltb T (peg_at pegs i))
+    unfolding is_bad falls
+    tests = go i p.last_is
+      where
+        go : (i : ℕ) → last ≡ get_or (0 ∷ pegs) i 0 → is_bad T pegs i ≡ (ltb (peg_at pegs i) last || leb 2000 i || ltb T (peg_at pegs i))
+        go zero e = rw (e, le-ltb (peg_at pegs 0) 0 (omega arith))
+        go (suc i) e = rw e
 
-  -- what the place says
-  pub bad-is : (i : ℕ) → i ≡ or_count pegs (first_bad T pegs) → i < length pegs → first_bad T pegs ≡ Some i
-  bad-is i e h = go (first_bad T pegs) e
-    where
-      go : (o : Option ℕ) → i ≡ or_count pegs o → o ≡ Some i
-      go (Some k) q = ap {B = Option ℕ} Some (sym q)
-      go None q = absurd (omega arith)
+    found : i < length pegs → is_bad T pegs i ≡ true → Some i ≡ first_bad T pegs
+    unfolding first_bad
+    found h bad = sym (first_at_some (is_bad T pegs) (length pegs) i (record { place = h; bad = bad; before = p.before }))
 
-  pub good_is : (i : ℕ) → i ≡ or_count pegs (first_bad T pegs) → length pegs ≤ i → first_bad T pegs ≡ None
-  unfolding first_bad
-  good_is i e h = go (first_bad T pegs) refl e
-    where
-      go : (o : Option ℕ) → first_bad T pegs ≡ o → i ≡ or_count pegs o → o ≡ None
-      go (Some k) w q = absurd (omega (arith, (first_some (is_bad T pegs) (length pegs) k w).place))
-      go None w q = refl
+    -- it lies below the one before it, is one too many, or lies beyond T
+    pub found_fall : i < length pegs → peg_at pegs i < last → Some i ≡ first_bad T pegs
+    found_fall h l = found h (tests ∙ rw (lt-ltb (peg_at pegs i) last l))
+
+    pub found_many : i < length pegs → 2000 ≤ i → Some i ≡ first_bad T pegs
+    found_many h l = found h (tests ∙ rw (le-leb 2000 i l, or_true (ltb (peg_at pegs i) last)))
+
+    pub found_past : i < length pegs → T < peg_at pegs i → Some i ≡ first_bad T pegs
+    found_past h l = found h (tests ∙ rw (lt-ltb T (peg_at pegs i) l, or_true (ltb (peg_at pegs i) last || leb 2000 i)))
+
+    -- or it is good
+    pub passed_more : last ≤ peg_at pegs i → i < 2000 → peg_at pegs i ≤ T → Passed (i + 1) (peg_at pegs i)
+    passed_more h few l = record {
+      before = below_more (λ j. is_bad T pegs j ≡ false) i p.before (tests ∙ rw (le-ltb (peg_at pegs i) last h, lt-leb 2000 i few, le-ltb T (peg_at pegs i) l));
+      last_is = rw add-one;
+    }
+
+    pub found_none : length pegs ≤ i → None ≡ first_bad T pegs
+    unfolding first_bad
+    found_none h = sym (first-clear (is_bad T pegs) (length pegs) (λ j l. p.before j (omega arith)))
 
   -- no peg lies below the one before it, is one too many, or lies beyond T
   module _ (e : first_bad T pegs ≡ None) where

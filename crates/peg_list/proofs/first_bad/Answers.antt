@@ -1,14 +1,16 @@
-use Rattle.std.proofs.Common.{sym, ◌∙◌, arith, below_more}
-use Rattle.peg_list.specs.Search.{bad_found, none-bad}
+-- A peg that fails a test is the first bad one; one that passes all is good.
+use Rattle.peg_list.specs.Search.{passed_more, found_fall, found_many, found_past}
 use Rattle.peg_list.proofs.first_bad.Goals as goal
+use Rattle.peg_list.proofs.first_bad.Goals.{then-station-before-via-then-station-before, then-station-before-via-else-station-before+then-i-ge-PEG_COUNT, then-station-before-via-else-station-before+else-i-ge-PEG_COUNT+then-whole-station}
 
-pub returns-then-is_bad : goal.returns-then-is_bad
-returns-then-is_bad c =
-    let a = c.args in
-    bad_found a.end a.stations.now c.loop-i.i c.loop-i-test.true c.loop-i.invariant.0 (sym c.is_bad.ensures ∙ c.if-is_bad.true)
+pub returns-then-station-before : goal.returns-then-station-before
+returns-then-station-before c =
+    let v = c.loop-i in
+    elim c.then-station-before.branch [
+      | then-station-before-via-then-station-before w ↦ found_fall _ _ v.i v.before v.invariant c.loop-i-test.true w.if-station-before.true
+      | then-station-before-via-else-station-before+then-i-ge-PEG_COUNT w ↦ found_many _ _ v.i v.before v.invariant c.loop-i-test.true w.if-i-ge-PEG_COUNT.true
+      | then-station-before-via-else-station-before+else-i-ge-PEG_COUNT+then-whole-station w ↦ found_past _ _ v.i v.before v.invariant c.loop-i-test.true w.if-whole-station.true
+    ]
 
 pub loop-i-preserved : goal.loop-i-preserved
-loop-i-preserved c = (below_more _ _ c.loop-i.invariant.0 (sym c.is_bad.ensures ∙ c.if-is_bad.false), omega arith)
-
-pub returns : goal.returns
-returns c = none-bad c.args.end c.args.stations.now c.loop-i.i (omega arith) c.loop-i.invariant.0
+loop-i-preserved c = passed_more _ _ _ _ c.loop-i.invariant c.if-station-before.false c.if-i-ge-PEG_COUNT.false c.if-whole-station.false
