@@ -1,0 +1,109 @@
+// The rules of the plan: tests of an element with those beside it.
+
+ghost use Rattle.std.specs.Prelude.{◌≡◌};
+ghost use Rattle.road.specs.Rules.{may_follow, wrong_kind, long_straight, short_straight, tight_arc, short_arc, element_test};
+ghost use Rattle.item_rules.specs.Any.{any_broken};
+
+use crate::ItemRule;
+use crate::clothoid;
+use road::{Element, ElementAmong, ElementRule, Limits};
+
+// The plan length that a road may have; no limit of the rule book.
+const LONGEST: u64 = 100000000;
+
+// Whether an element may follow the two before it.
+#[tactic(auto, unfolding(road::specs::Rules::may_follow))]
+fn may_follow(earlier: &Element, before: &Element, e: &Element) -> bool
+    ensures { result ≡ may_follow earlier.now before.now e.now }
+{
+    if before.kind == 2 {
+        e.kind == 1 || (earlier.kind == 1 && (e.kind == 0 || e.kind == 2))
+    } else {
+        e.kind == 2
+    }
+}
+
+// 7
+#[tactic(auto, unfolding(road::specs::Rules::wrong_kind))]
+fn is_wrong_kind(e: &ElementAmong) -> bool
+    ensures { result ≡ wrong_kind e.now.place e.now.count e.now.earlier e.now.before e.now.element }
+{
+    if e.count <= e.place {
+        return e.place == 0 || e.before.kind != 0;
+    }
+    if e.place == 0 {
+        return e.element.kind != 0;
+    }
+    !may_follow(&e.earlier, &e.before, &e.element)
+}
+
+// 8
+fn is_long_straight(l: &Limits, e: &Element) -> bool
+    ensures { result ≡ long_straight l.now e.now }
+{
+    e.kind == 0 && l.straight_max != limits::NO_RULE && l.straight_max < e.length
+}
+
+// 9, of a straight and the radii of the arcs before it and after it
+#[tactic(auto, unfolding(road::specs::Rules::short_straight))]
+pub fn is_short_straight(l: &Limits, before: i32, e: &Element, after: i32) -> bool
+    ensures { result ≡ short_straight l.now before e.now after }
+{
+    e.kind == 0
+        && l.straight_min != limits::NO_RULE
+        && clothoid::are_same_turn(before, after)
+        && e.length < l.straight_min
+}
+
+// 10
+fn is_tight_arc(l: &Limits, e: &Element) -> bool
+    ensures { result ≡ tight_arc l.now e.now }
+{
+    e.kind == 1 && e.radius.unsigned_abs() < l.radius_min
+}
+
+// 11
+fn is_short_arc(l: &Limits, e: &Element) -> bool
+    ensures { result ≡ short_arc l.now e.now }
+{
+    e.kind == 1 && e.length < l.arc_min
+}
+
+impl ItemRule for ElementRule {
+    type Item = ElementAmong;
+
+    ghost test = { element_test };
+
+    fn places(self, count: usize) -> usize {
+        match self {
+            ElementRule::Kinds => count + 1,
+            _ => count,
+        }
+    }
+
+    fn is_broken(self, l: &Limits, e: &ElementAmong) -> bool {
+        match self {
+            ElementRule::PlanLength => LONGEST < e.end,
+            ElementRule::Kinds => is_wrong_kind(e),
+            ElementRule::LinkedArcs => clothoid::is_wrong_link(e),
+            ElementRule::LongStraight => is_long_straight(l, &e.element),
+            ElementRule::TightArc => is_tight_arc(l, &e.element),
+            ElementRule::ShortArc => is_short_arc(l, &e.element),
+            ElementRule::ShortClothoid => clothoid::is_short_clothoid(l, e),
+        }
+    }
+}
+
+// Whether any of them is broken: a plan that breaks none is passed once.
+#[tactic(auto, unfolding(crate::specs::Any::any_broken))]
+pub fn is_any_broken(l: &Limits, e: &ElementAmong) -> bool
+    ensures { result ≡ any_broken l.now e.now }
+{
+    LONGEST < e.end
+        || is_wrong_kind(e)
+        || clothoid::is_wrong_link(e)
+        || is_long_straight(l, &e.element)
+        || is_tight_arc(l, &e.element)
+        || is_short_arc(l, &e.element)
+        || clothoid::is_short_clothoid(l, e)
+}

@@ -1,0 +1,57 @@
+// The rules of the profile: tests of a tangent with those beside it.
+
+ghost use Rattle.std.specs.Prelude.{◌≡◌};
+ghost use Rattle.road.specs.Rules.{steep_tangent, short_tangent, sharp_vertex, tangent_test};
+
+use crate::ItemRule;
+use road::{Limits, Tangent, TangentAmong, TangentRule};
+
+// 13
+fn is_steep_tangent(l: &Limits, t: &Tangent) -> bool
+    ensures { result ≡ steep_tangent l.now t.now }
+{
+    l.grade_max < t.grade.unsigned_abs()
+}
+
+// 14
+fn is_short_tangent(before: &Tangent, t: &Tangent) -> bool
+    ensures { result ≡ short_tangent before.now t.now }
+{
+    (t.length as u64) < before.half as u64 + t.half as u64
+}
+
+// 15
+#[tactic(auto, unfolding(road::specs::Rules::sharp_vertex))]
+fn is_sharp_vertex(l: &Limits, t: &Tangent, after: &Tangent) -> bool
+    ensures { result ≡ sharp_vertex l.now t.now after.now }
+{
+    let radius = if t.grade < after.grade {
+        l.sag_radius
+    } else {
+        l.crest_radius
+    };
+    2 * (t.half as u64) * 1000000 < radius as u64 * after.grade.abs_diff(t.grade) as u64
+}
+
+impl ItemRule for TangentRule {
+    type Item = TangentAmong;
+
+    ghost test = { tangent_test };
+
+    fn places(self, count: usize) -> usize
+        ensures { result ≡ (tangent_test self).places count }
+    {
+        match self {
+            TangentRule::SharpVertex => count.saturating_sub(1),
+            _ => count,
+        }
+    }
+
+    fn is_broken(self, l: &Limits, t: &TangentAmong) -> bool {
+        match self {
+            TangentRule::SteepTangent => is_steep_tangent(l, &t.tangent),
+            TangentRule::ShortTangent => is_short_tangent(&t.before, &t.tangent),
+            TangentRule::SharpVertex => is_sharp_vertex(l, &t.tangent, &t.after),
+        }
+    }
+}
