@@ -30,13 +30,13 @@ fn is_wrong_egg(first: i32, second: i32) -> bool
 pub fn is_wrong_link(e: &ElementAmong) -> bool
     ensures { result ≡ wrong_link e.now.earlier e.now.before e.now.element e.now.after }
 {
-    if e.element.kind != 2 || e.after.kind != 1 {
+    if !e.element.is_clothoid() || !e.after.is_arc() {
         return false;
     }
-    if e.before.kind == 1 {
+    if e.before.is_arc() {
         return is_wrong_egg(e.before.radius, e.after.radius);
     }
-    e.before.kind == 2 && e.earlier.kind == 1 && are_same_turn(e.earlier.radius, e.after.radius)
+    e.before.is_clothoid() && e.earlier.is_arc() && are_same_turn(e.earlier.radius, e.after.radius)
 }
 
 // The radius of the arc of a clothoid that has one.
@@ -44,7 +44,11 @@ pub fn is_wrong_link(e: &ElementAmong) -> bool
 fn own_arc(before: &Element, after: &Element) -> i32
     ensures { result ≡ own_arc before.now after.now }
 {
-    if after.kind == 1 { after.radius } else { before.radius }
+    if after.is_arc() {
+        after.radius
+    } else {
+        before.radius
+    }
 }
 
 // Whether an egg's length times both radii falls short of the square of the parameter times their difference.
@@ -62,7 +66,7 @@ fn is_short_egg(parameter: u32, length: u32, first: i32, second: i32) -> bool
 fn is_below_parameter(parameter: u32, length: u32, before: &Element, after: &Element) -> bool
     ensures { result ≡ below_parameter parameter length before.now after.now }
 {
-    if before.kind == 1 && after.kind == 1 {
+    if before.is_arc() && after.is_arc() {
         return is_short_egg(parameter, length, before.radius, after.radius);
     }
     let radius = own_arc(before, after).unsigned_abs();
@@ -85,5 +89,5 @@ fn is_too_short(least: LeastClothoid, length: u32, before: &Element, after: &Ele
 pub fn is_short_clothoid(l: &Limits, e: &ElementAmong) -> bool
     ensures { result ≡ short_clothoid l.now e.now.before e.now.element e.now.after }
 {
-    e.element.kind == 2 && is_too_short(l.clothoid, e.element.length, &e.before, &e.after)
+    e.element.is_clothoid() && is_too_short(l.clothoid, e.element.length, &e.before, &e.after)
 }

@@ -9,9 +9,7 @@ mod crossfall;
 mod plan;
 mod profile;
 
-pub use plan::is_any_broken;
-pub use plan::is_short_straight;
-
+pub use plan::{is_any_broken, is_short_straight};
 use road::Limits;
 
 // A rule of the items of one list.

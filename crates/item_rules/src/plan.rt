@@ -4,8 +4,7 @@ ghost use Rattle.std.specs.Prelude.{◌≡◌};
 ghost use Rattle.road.specs.Rules.{may_follow, wrong_kind, long_straight, short_straight, tight_arc, short_arc, element_test};
 ghost use Rattle.item_rules.specs.Any.{any_broken};
 
-use crate::ItemRule;
-use crate::clothoid;
+use crate::{ItemRule, clothoid};
 use road::{Element, ElementAmong, ElementRule, Limits};
 
 // The plan length that a road may have; no limit of the rule book.
@@ -16,10 +15,10 @@ const LONGEST: u64 = 100000000;
 fn may_follow(earlier: &Element, before: &Element, e: &Element) -> bool
     ensures { result ≡ may_follow earlier.now before.now e.now }
 {
-    if before.kind == 2 {
-        e.kind == 1 || (earlier.kind == 1 && (e.kind == 0 || e.kind == 2))
+    if before.is_clothoid() {
+        e.is_arc() || (earlier.is_arc() && (e.is_straight() || e.is_clothoid()))
     } else {
-        e.kind == 2
+        e.is_clothoid()
     }
 }
 
@@ -29,10 +28,10 @@ fn is_wrong_kind(e: &ElementAmong) -> bool
     ensures { result ≡ wrong_kind e.now.place e.now.count e.now.earlier e.now.before e.now.element }
 {
     if e.count <= e.place {
-        return e.place == 0 || e.before.kind != 0;
+        return e.place == 0 || !e.before.is_straight();
     }
     if e.place == 0 {
-        return e.element.kind != 0;
+        return !e.element.is_straight();
     }
     !may_follow(&e.earlier, &e.before, &e.element)
 }
@@ -41,7 +40,7 @@ fn is_wrong_kind(e: &ElementAmong) -> bool
 fn is_long_straight(l: &Limits, e: &Element) -> bool
     ensures { result ≡ long_straight l.now e.now }
 {
-    e.kind == 0 && l.straight_max != limits::NO_RULE && l.straight_max < e.length
+    e.is_straight() && l.straight_max != limits::NO_RULE && l.straight_max < e.length
 }
 
 // 9, of a straight and the radii of the arcs before it and after it
@@ -49,7 +48,7 @@ fn is_long_straight(l: &Limits, e: &Element) -> bool
 pub fn is_short_straight(l: &Limits, before: i32, e: &Element, after: i32) -> bool
     ensures { result ≡ short_straight l.now before e.now after }
 {
-    e.kind == 0
+    e.is_straight()
         && l.straight_min != limits::NO_RULE
         && clothoid::are_same_turn(before, after)
         && e.length < l.straight_min
@@ -59,14 +58,14 @@ pub fn is_short_straight(l: &Limits, before: i32, e: &Element, after: i32) -> bo
 fn is_tight_arc(l: &Limits, e: &Element) -> bool
     ensures { result ≡ tight_arc l.now e.now }
 {
-    e.kind == 1 && e.radius.unsigned_abs() < l.radius_min
+    e.is_arc() && e.radius.unsigned_abs() < l.radius_min
 }
 
 // 11
 fn is_short_arc(l: &Limits, e: &Element) -> bool
     ensures { result ≡ short_arc l.now e.now }
 {
-    e.kind == 1 && e.length < l.arc_min
+    e.is_arc() && e.length < l.arc_min
 }
 
 impl ItemRule for ElementRule {

@@ -1,7 +1,7 @@
 // The rules of the profile: tests of a tangent with those beside it.
 
-ghost use Rattle.std.specs.Prelude.{◌≡◌};
-ghost use Rattle.road.specs.Rules.{steep_tangent, short_tangent, sharp_vertex, tangent_test};
+ghost use Rattle.std.specs.Prelude.{◌≡◌, ◌-ℤ◌};
+ghost use Rattle.road.specs.Rules.{steep_tangent, short_tangent, vertical_radius, sharp_vertex, tangent_test};
 
 use crate::ItemRule;
 use road::{Limits, Tangent, TangentAmong, TangentRule};
@@ -20,17 +20,24 @@ fn is_short_tangent(before: &Tangent, t: &Tangent) -> bool
     (t.length as u64) < before.half as u64 + t.half as u64
 }
 
+// That of a sag where the grade rises, else that of a crest.
+fn vertical_radius(l: &Limits, t: &Tangent, after: &Tangent) -> u32
+    ensures { result ≡ vertical_radius l.now (after.now.grade -ℤ t.now.grade) }
+{
+    if t.grade < after.grade {
+        l.sag_radius
+    } else {
+        l.crest_radius
+    }
+}
+
 // 15
 #[tactic(auto, unfolding(road::specs::Rules::sharp_vertex))]
 fn is_sharp_vertex(l: &Limits, t: &Tangent, after: &Tangent) -> bool
     ensures { result ≡ sharp_vertex l.now t.now after.now }
 {
-    let radius = if t.grade < after.grade {
-        l.sag_radius
-    } else {
-        l.crest_radius
-    };
-    2 * (t.half as u64) * 1000000 < radius as u64 * after.grade.abs_diff(t.grade) as u64
+    let radius = vertical_radius(l, t, after) as u64;
+    2 * (t.half as u64) * 1000000 < radius * after.grade.abs_diff(t.grade) as u64
 }
 
 impl ItemRule for TangentRule {

@@ -56,10 +56,17 @@ fn is_allowed(l: &Limits, radius: i32, p: &Crossfall) -> bool
 
 // What a point and the next show of an element from low to high.
 #[tactic(auto, unfolding(crate::specs::Shown::shown_by))]
-pub fn is_wrong(l: &Limits, e: &Element, low: u64, high: u64, p: &Crossfall, after: &Crossfall) -> bool
+pub fn is_wrong(
+    l: &Limits,
+    e: &Element,
+    low: u64,
+    high: u64,
+    p: &Crossfall,
+    after: &Crossfall,
+) -> bool
     ensures { result ≡ shown_by l.now e.now low high p.now after.now }
 {
-    e.kind == 1
+    e.is_arc()
         && (changes_between(low, high, p, after)
             || (p.station as u64 <= low && !is_allowed(l, e.radius, p)))
 }
