@@ -2,7 +2,7 @@
 
 ghost use Rattle.std.specs.Prelude.{◌≡◌, ◌<◌, ◌≤◌, ◌++◌, ◌∷◌, [], length, pos};
 
-use crate::{Contract, Crossfall, Element, Head, Kind, Tangent};
+use crate::{Crossfall, Element, Head, Tangent};
 use std::marker::Model;
 
 // An alignment is held as three lists with their counts. Contracts see the road that it holds.
@@ -37,24 +37,12 @@ impl Alignment {
     {
         Alignment {
             head,
-            elements: [Element {
-                kind: Kind::Straight,
-                length: 0,
-                radius: 0,
-            }; 200],
+            elements: [Element::BLANK; 200],
             element_count: 0,
             start: 0,
-            tangents: [Tangent {
-                length: 0,
-                grade: 0,
-                half: 0,
-            }; 100],
+            tangents: [Tangent::BLANK; 100],
             tangent_count: 0,
-            crossfalls: [Crossfall {
-                station: 0,
-                left: 0,
-                right: 0,
-            }; 200],
+            crossfalls: [Crossfall::BLANK; 200],
             crossfall_count: 0,
         }
     }

@@ -25,6 +25,15 @@ pub struct Element {
     pub radius: i32,
 }
 
+impl Element {
+    // What stands past either end of the plan.
+    pub const BLANK: Element = Element {
+        kind: Kind::Straight,
+        length: 0,
+        radius: 0,
+    };
+}
+
 // A tangent of the profile, with the half length of the vertical curve that follows it; 0 after the last.
 #[derive(Clone, Copy)]
 pub struct Tangent {
@@ -33,12 +42,30 @@ pub struct Tangent {
     pub half: u32,
 }
 
+impl Tangent {
+    // What stands past either end of the profile.
+    pub const BLANK: Tangent = Tangent {
+        length: 0,
+        grade: 0,
+        half: 0,
+    };
+}
+
 // A crossfall point.
 #[derive(Clone, Copy)]
 pub struct Crossfall {
     pub station: u32,
     pub left: i32,
     pub right: i32,
+}
+
+impl Crossfall {
+    // What stands past either end of the crossfall points.
+    pub const BLANK: Crossfall = Crossfall {
+        station: 0,
+        left: 0,
+        right: 0,
+    };
 }
 
 // What a file says of its contract: no date, or the day on which it was made.
