@@ -1,4 +1,3 @@
-pub mod Ends
-pub mod Standing
+pub mod Reads
 pub mod Onward
-pub mod Range
+pub mod Fits

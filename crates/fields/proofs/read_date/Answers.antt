@@ -1,13 +1,11 @@
-use mathlib.Core.Path.{ap, ◌∙◌}
-use Prim.Native.Nat.{ℕ}
+use borrow.Author.Rules.{rules}
+use Rattle.std.specs.Prelude.{ℕ}
 use Rattle.days.specs.Day.{is_day}
 use Rattle.road.specs.File.{date}
-use Rattle.fields.specs.Ends.{as_field}
-use Rattle.fields.specs.Range.{said-there}
+use Rattle.road.specs.declared.refusal.Fault.TheVariants.{NoDay}
+use Rattle.fields.specs.Fits.{fitted}
 use Rattle.fields.proofs.read_date.Goals as goal
 
 pub returns : goal.returns
 unfolding date
-returns c =
-    let a = c.args in
-    c.day_from.ensures ∙ ap as_field (said-there 22 (λ (v : ℕ). v) is_day a.file.now a.from c.number_where-n.result c.number_where-n.ensures)
+returns c = fitted (λ (v : ℕ). v) is_day NoDay (c.read_as.ensures _ (λ v o p. search rules))

@@ -1,3 +1,0 @@
-pub mod Point
-pub mod Contracts
-pub mod Chains
