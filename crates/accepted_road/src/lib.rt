@@ -52,6 +52,14 @@ impl AcceptedRoad {
         &self.alignment
     }
 
+    // The step.
+    pub fn step(&self) -> u64
+        ensures step { result ≡ self.now.head.step }
+        ensures guaranteed { Guaranteed self.now }
+    {
+        u64::from(self.alignment.head().step)
+    }
+
     // The lane width.
     pub fn lane(&self) -> u32
         ensures lane { result ≡ lane_width self.now }
