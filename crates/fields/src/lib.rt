@@ -3,6 +3,7 @@
 #![tactic(auto)]
 
 ghost use Rattle.std.specs.Prelude.{◌≡◌, ℕ, Result};
+ghost use Rattle.file_numbers.specs.Number.{number};
 ghost use Rattle.road.specs.File.{field, date, signed, between, in_size};
 ghost use Rattle.road.specs.declared.refusal.Fault.{Fault};
 ghost use Rattle.fields.specs.Reads.{Reads, saying};
@@ -11,16 +12,24 @@ use file_numbers::signed_of;
 use reader::Reader;
 use road::{Fault, Refusal};
 
-// The number at the reading place as what it says; a number that says nothing is refused at its first byte.
+// The number at the reading place; one at fault is refused at its first byte.
+pub fn read_number(r: &mut Reader) -> Result<u32, Refusal>
+    ensures { Reads number r.old r.new result }
+{
+    let place = r.place();
+    r.number().ok_or(Refusal {
+        fault: Fault::BrokenNumber,
+        place,
+    })
+}
+
+// What the number at the reading place says; one that says nothing is refused at its first byte.
 pub fn read_as<T, F: FnOnce(u32) -> Result<T, Fault>>(r: &mut Reader, says: F) -> Result<T, Refusal>
     requires { F.IsAlwaysCallable says }
     ensures { (told : ℕ → Result T Fault) → ((v : ℕ) (o : Result T Fault) → F.post says v o → o ≡ told v) → Reads (saying told) r.old r.new result }
 {
     let place = r.place();
-    let number = r.number().ok_or(Refusal {
-        fault: Fault::BrokenNumber,
-        place,
-    })?;
+    let number = read_number(r)?;
     says(number).map_err(|fault| Refusal { fault, place })
 }
 

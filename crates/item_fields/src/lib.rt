@@ -1,11 +1,11 @@
 // The items of the file, each made of its fields: the contract, the head, a plan element, a tangent, a crossfall point.
 
-#![tactic(auto)]
+#![tactic(auto, using(fields::specs::Onward::chained, fields::specs::Onward::stopped, fields::specs::Onward::gives, crate::proofs::Contracts::dated, crate::proofs::Contracts::plain), unfolding(road::specs::File::element, road::specs::File::tangent, road::specs::File::point, road::specs::File::dated_fields, road::specs::File::head_fields))]
 
 ghost use Rattle.road.specs.File.{radius, element, half, tangent, point, contract_fields, head_fields};
 ghost use Rattle.fields.specs.Reads.{Reads};
 
-use fields::{read_as, read_date, read_field, read_signed, read_sized};
+use fields::{read_as, read_date, read_field, read_number, read_signed, read_sized};
 use reader::Reader;
 use road::{Class, Contract, Crossfall, Element, Head, Kind, Refusal, Tangent, Terrain};
 
@@ -74,10 +74,10 @@ pub fn read_crossfall(r: &mut Reader) -> Result<Crossfall, Refusal>
 fn read_contract(r: &mut Reader) -> Result<Contract, Refusal>
     ensures { Reads contract_fields r.old r.new result }
 {
-    let Some(9) = r.peek() else {
+    if r.peek() != Some(9) {
         return Ok(Contract::Undated);
-    };
-    let _layout = r.number();
+    }
+    read_number(r)?;
     let day = read_date(r)?;
     Ok(Contract::Dated(day))
 }
