@@ -91,7 +91,7 @@ pub fn next_in(road: &AcceptedRoad, s: u64) -> Option<u64>
     };
     search.add(0);
     search.add(road.total());
-    search.add_multiples(u64::from(alignment.head().step), road.total());
+    search.add_multiples(road.step(), road.total());
     search.add_ends(alignment.elements());
     search.add_curves(&tangents[..tangents.len() - 1]);
     search.add_points(alignment.crossfalls());

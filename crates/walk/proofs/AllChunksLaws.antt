@@ -1,5 +1,5 @@
 -- A whole list in chunks: put together, they are the rows of the listing's run; and there are such calls.
-use Rattle.std.specs.Prelude.{◌≡◌, refl, ℕ, zero, suc, ◌+◌, ◌≤◌, ◌<◌}
+use Rattle.std.specs.Prelude.{◌≡◌, refl, ℕ, zero, suc, ◌+◌, ◌≤◌, ◌<◌, Some}
 use Rattle.std.proofs.Math.Path.{sym, ap, ap₂}
 use Rattle.std.proofs.Common.{◌∙◌, subst, arith}
 use mathlib.Core.List.{List, [], ◌∷◌, ◌++◌, Memᴰ}
@@ -19,11 +19,10 @@ use Rattle.walk.specs.FittingRows.{not_below, chunk, onward}
 use Rattle.walk.specs.NotBelow.{from_member, from_all, from-from}
 use Rattle.walk.specs.Parts.{fit_whole}
 use Rattle.walk.specs.Inside.{listed-inside}
-use Rattle.walk.specs.declared.Onward.TheVariants.{From}
 use Rattle.walk.specs.AllChunks.{Called, Calls, last, more, Seen, after, at-station, bytes_are, bytes_of, done-remaining, first-among, onward-beyond, stops}
 
 module _ {r : Road} (G : Guaranteed r) where
-  module _ (s room t : ℕ) (e : onward (chunk r s room).remaining ≡ From t) where
+  module _ (s room t : ℕ) (e : onward (chunk r s room).remaining ≡ Some t) where
     -- the stations left are those from it on
     pub remaining-from : (chunk r s room).remaining ≡ not_below t (listed r)
     remaining-from =
@@ -42,7 +41,7 @@ module _ {r : Road} (G : Guaranteed r) where
         go : (l : List ℕ) → (chunk r s (length b)).remaining ≡ l → Called r s
         go [] e = record { seen = after r s b ∷ []; calls = last b refl (ap onward e) }
         go (t ∷ l) e =
-            let q : onward (chunk r s (length b)).remaining ≡ From t = ap onward e in
+            let q : onward (chunk r s (length b)).remaining ≡ Some t = ap onward e in
             let w = onwards t (onward-beyond G s (length b) t q room) (listed-inside G (onward-listed s (length b) t q)) in
             record { seen = after r s b ∷ w.seen; calls = more b refl q w.calls }
 

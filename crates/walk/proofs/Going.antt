@@ -1,5 +1,5 @@
 -- What was written so far, and the rows that remain. In one turn of the walk a row is written, and its station is passed.
-use Rattle.std.proofs.Common.{◌≡◌, refl, sym, ap, ap₂, ◌∙◌, subst, List, [], ◌∷◌, ◌++◌, ℕ, ◌+◌, ◌-◌, ◌≤◌, ◌<◌, length, drop, arith}
+use Rattle.std.proofs.Common.{◌≡◌, refl, sym, ap, ap₂, ◌∙◌, subst, List, [], ◌∷◌, ◌++◌, ℕ, ◌+◌, ◌-◌, ◌≤◌, ◌<◌, length, drop, arith, None, Some}
 use mathlib.Core.List.{append-nil}
 use native.Mathlib.Nat.{sub-zero}
 use Rattle.decimal.specs.Written.{Wrote, written, wrote_none, wrote-append, wrote-length}
@@ -11,13 +11,11 @@ use Rattle.road.specs.Machine.{overwrite}
 use Rattle.laws_of_acceptance.specs.Guaranteed.{Guaranteed}
 use Rattle.segment.specs.Segment.{line_in}
 use Rattle.segment.proofs.LineLaws.{line-shows}
-use Rattle.cursors.specs.declared.View.{View}
 use Rattle.walk.specs.FittingRows.{not_below, Part, before, nothing, rows_that_fit, chunk, onward, answer}
-use Rattle.walk.specs.Parts.{before-before, fit_row, fit_full}
-use Rattle.walk.specs.Inside.{chunk-is}
-use Rattle.walk.specs.Walks.{Stands, Entered, moved, before-joint, shown_here, passed}
+use Rattle.walk.specs.Parts.{before-before, fit_none, fit_row, fit_full}
+use Rattle.walk.specs.Inside.{chunk-is, none-listed}
+use Rattle.walk.specs.Walks.{Stands, Entered, moved, shown_here, passed}
 use Rattle.walk.specs.declared.Chunk.{Chunk}
-use Rattle.walk.specs.declared.Onward.TheVariants.{From}
 use Rattle.walk.specs.declared.Walk.{Walk}
 
 -- z became y: `done` was written up to `end`; the part p is that, and then q
@@ -65,30 +63,32 @@ module _ {p : Part} {z y : List ℕ} {end : ℕ} {q : Part} (g : Going p z y end
 
 -- ---- along the walk
 -- the walk stands in a segment or at its joint, and the rows from there on remain
-pub record Walking (r : Road) (p : Part) (z y : List ℕ) (v : View) (w : Walk) (end : ℕ) : Type 0 where
+pub record Walking (r : Road) (p : Part) (z y : List ℕ) (w : Walk) (end : ℕ) : Type 0 where
   pub stands : Stands r w
-  pub view : w.view ≡ v
   pub going : Going p z y end (rows_that_fit (line r) (length z - end) (not_below w.station (listed r)))
 
-pub walking_starts : {r : Road} {first : ℕ} {w : Walk} (z : List ℕ) → Entered r first w → Walking r (chunk r first (length z)) z z w.view w 0
+pub walking_starts : {r : Road} {first : ℕ} {w : Walk} (z : List ℕ) → Entered r first w → Walking r (chunk r first (length z)) z z w 0
 walking_starts {r} {first} z e = record {
   stands = e.stands;
-  view = refl;
   going = subst (Going (chunk r first (length z)) z z 0) (chunk-is r first (length z) ∙ ap₂ (λ (n x : ℕ). rows_that_fit (line r) n (not_below x (listed r))) (sym (sub-zero (length z))) (sym e.at)) (going-starts (chunk r first (length z)) z);
 }
 
 pub entered-inside : {r : Road} {x : ℕ} {w : Walk} → Entered r x w → w.station ≤ total r → w.station < w.view.joint
 entered-inside e l = let q = e.at in let k = e.inside (omega arith) in omega arith
 
-module _ {r : Road} (G : Guaranteed r) {p : Part} {z y : List ℕ} {v : View} {w : Walk} {end : ℕ} (k : Walking r p z y v w end) where
+module _ {r : Road} (G : Guaranteed r) {p : Part} {z y : List ℕ} {w : Walk} {end : ℕ} (k : Walking r p z y w end) where
   -- a row, and one station on
-  pub walked : {y' : List ℕ} {end' : ℕ} {n : Walk} → w.station < v.joint → 96 ≤ length z - end → Wrote y y' end (line_in v.segment w.station) end' → end' ≤ end + 96 → n ≡ moved r.head.step w
-      → Walking r p z y' v n end' × (w.station < n.station)
+  pub walked : {y' : List ℕ} {end' : ℕ} {n : Walk} → w.station < w.view.joint → 96 ≤ length z - end → Wrote y y' end (line_in w.view.segment w.station) end' → end' ≤ end + 96 → n ≡ moved r.head.step w
+      → Walking r p z y' n end' × (w.station < n.station)
   walked {y'} {end'} h room wrote most e =
-      let c = passed G k.stands (before-joint w k.view h) in
-      let t = subst (λ (l : List ℕ). Wrote y y' end l end') (line-shows (shown_here k.stands k.view h)) wrote in
-      rw e (record { stands = c.stands; view = k.view; going = going-row k.going (line r) w.station _ (ap (rows_that_fit (line r) (length z - end)) c.remaining) room t most }, c.beyond)
+      let c = passed G k.stands h in
+      let t = subst (λ (l : List ℕ). Wrote y y' end l end') (line-shows (shown_here k.stands h)) wrote in
+      rw e (record { stands = c.stands; going = going-row k.going (line r) w.station _ (ap (rows_that_fit (line r) (length z - end)) c.remaining) room t most }, c.beyond)
 
   -- no room for the row of the station
-  pub full : w.station < v.joint → length z - end < 96 → (◌≡◌ {A = Chunk} (record { bytes = end; next = From w.station }) (answer p)) × (y ≡ overwrite p.text z)
-  full h room = going_answers k.going (fit_full (line r) (length z - end) (not_below w.station (listed r)) room ∙ ap nothing (passed G k.stands (before-joint w k.view h)).remaining)
+  pub full : w.station < w.view.joint → length z - end < 96 → (◌≡◌ {A = Chunk} (record { bytes = end; next = Some w.station }) (answer p)) × (y ≡ overwrite p.text z)
+  full h room = going_answers k.going (fit_full (line r) (length z - end) (not_below w.station (listed r)) room ∙ ap nothing (passed G k.stands h).remaining)
+
+  -- at the end of the road no row remains
+  pub done : total r < w.station → (◌≡◌ {A = Chunk} (record { bytes = end; next = None }) (answer p)) × (y ≡ overwrite p.text z)
+  done beyond = going_answers k.going (ap (rows_that_fit (line r) (length z - end)) (none-listed G w.station beyond) ∙ fit_none (line r) (length z - end))

@@ -1,5 +1,5 @@
 -- A whole list in chunks: the calls that list a road part by part, and the station to go on from.
-use Rattle.std.specs.Prelude.{◌≡◌, refl, ℕ, suc, ◌+◌, ◌-◌, ◌≤◌, ◌<◌, take, drop}
+use Rattle.std.specs.Prelude.{◌≡◌, refl, ℕ, suc, ◌+◌, ◌-◌, ◌≤◌, ◌<◌, take, drop, None, Some}
 use Rattle.std.proofs.Common.{arith}
 use mathlib.Core.List.Memᴰ
 use mathlib.Core.List.{List, [], ◌∷◌, Memᴰ}
@@ -17,7 +17,6 @@ use Rattle.walk.specs.NotBelow.{from_member, from-ascends}
 use Rattle.walk.specs.Parts.{first_or, Stopped, fit_none, fit_row, fit_stops}
 use Rattle.walk.specs.Inside.{listed-ascends, listed-inside}
 use Rattle.walk.specs.declared.Chunk.{Chunk}
-use Rattle.walk.specs.declared.Onward.TheVariants.{From, Done}
 
 -- what is seen after a call: its answer, and every byte of the buffer
 pub record Seen : Type 0 where
@@ -30,8 +29,8 @@ after r s b = record { answer = answer (chunk r s (length b)); buffer = overwrit
 
 -- calls with any buffers, the first from s, each next one from the station that the last one answered, until the list is done
 pub data Calls (r : Road) : ℕ → List Seen → Type 0 where
-  last : {s : ℕ} {c : Seen} (b : List ℕ) → c ≡ after r s b → c.answer.next ≡ Done → Calls r s (c ∷ [])
-  more : {s t : ℕ} {c : Seen} {cs : List Seen} (b : List ℕ) → c ≡ after r s b → c.answer.next ≡ From t → Calls r t cs → Calls r s (c ∷ cs)
+  last : {s : ℕ} {c : Seen} (b : List ℕ) → c ≡ after r s b → c.answer.next ≡ None → Calls r s (c ∷ [])
+  more : {s t : ℕ} {c : Seen} {cs : List Seen} (b : List ℕ) → c ≡ after r s b → c.answer.next ≡ Some t → Calls r t cs → Calls r s (c ∷ cs)
 
 -- there are such calls: what is seen after each
 pub record Called (r : Road) (s : ℕ) : Type 0 where
@@ -47,15 +46,15 @@ unfolding overwrite
 bytes_are r s b = take-append_seam (chunk r s (length b)).text (drop (length (chunk r s (length b)).text) b)
 
 -- ---- the station to go on from
-pub done-remaining : (l : List ℕ) → onward l ≡ Done → l ≡ []
+pub done-remaining : (l : List ℕ) → onward l ≡ None → l ≡ []
 done-remaining [] e = refl
 done-remaining (s ∷ l) e = absurd (let z : ◌≡◌ {A = ℕ} 0 1 = cc in omega arith)
 
-first-remaining : (e t : ℕ) (l : List ℕ) → onward l ≡ From t → first_or e l ≡ t
+first-remaining : (e t : ℕ) (l : List ℕ) → onward l ≡ Some t → first_or e l ≡ t
 first-remaining e t [] q = absurd (let z : ◌≡◌ {A = ℕ} 0 1 = cc in omega arith)
 first-remaining e t (s ∷ l) q = cc
 
-pub first-among : (t : ℕ) (l : List ℕ) → onward l ≡ From t → Memᴰ t l
+pub first-among : (t : ℕ) (l : List ℕ) → onward l ≡ Some t → Memᴰ t l
 first-among t [] q = absurd (let z : ◌≡◌ {A = ℕ} 0 1 = cc in omega arith)
 first-among t (s ∷ l) q = let e : t ≡ s = cc in Memᴰ.head e
 
@@ -68,7 +67,7 @@ module _ {r : Road} (G : Guaranteed r) where
   unfolding chunk
   stops s room = fit_stops (line r) (bound s) room (from-ascends s (listed-ascends r)) (omega arith) (λ z m. let h = listed-inside G (from_member s (listed r) m).among in omega arith)
 
-  module _ (s room t : ℕ) (e : onward (chunk r s room).remaining ≡ From t) where
+  module _ (s room t : ℕ) (e : onward (chunk r s room).remaining ≡ Some t) where
     pub at-station : first_or (bound s) (chunk r s room).remaining ≡ t
     at-station = first-remaining (bound s) t (chunk r s room).remaining e
 
@@ -77,7 +76,7 @@ module _ {r : Road} (G : Guaranteed r) where
     unfolding chunk
     onward-beyond h = go (not_below s (listed r)) (from-ascends s (listed-ascends r)) (λ z m. let i = listed-inside G (from_member s (listed r) m).among in omega arith) e
       where
-        go : (l : List ℕ) → Ascends s l → ((z : ℕ) → Memᴰ z l → z < bound s) → onward (rows_that_fit (line r) room l).remaining ≡ From t → s < t
+        go : (l : List ℕ) → Ascends s l → ((z : ℕ) → Memᴰ z l → z < bound s) → onward (rows_that_fit (line r) room l).remaining ≡ Some t → s < t
         go [] a below q = absurd (Memᴰ.not-nil (first-among t [] (rw (fit_none (line r) room) at q)))
         go (x ∷ xs) (step b a) below q =
             let p = rows_that_fit (line r) (room - length (line r x)) xs in

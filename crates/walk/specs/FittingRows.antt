@@ -1,11 +1,9 @@
 -- The listed stations from a station on, and the rows of them that fit a buffer.
-use Rattle.std.specs.Prelude.{true, false, List, [], ◌∷◌, ◌++◌, ℕ, ◌-◌, leb, length, if◌then◌else◌}
+use Rattle.std.specs.Prelude.{true, false, List, [], ◌∷◌, ◌++◌, ℕ, ◌-◌, leb, length, if◌then◌else◌, Option, None, Some}
 use Rattle.road.specs.File.{Road}
 use Rattle.road.specs.Listed.{listed}
 use Rattle.road.specs.Line.{line}
 use Rattle.walk.specs.declared.Chunk.{Chunk}
-use Rattle.walk.specs.declared.Onward.{Onward}
-use Rattle.walk.specs.declared.Onward.TheVariants.{From, Done}
 
 -- those of a list that are not below s
 unfoldable pub not_below : ℕ → List ℕ → List ℕ
@@ -35,9 +33,9 @@ unfoldable pub chunk : Road → (station room : ℕ) → Part
 chunk r s room = rows_that_fit (line r) room (not_below s (listed r))
 
 -- the first of the stations that remain, or that the list is done
-abbrev pub onward : List ℕ → Onward
-onward [] = Done
-onward (s ∷ _) = From s
+abbrev pub onward : List ℕ → Option ℕ
+onward [] = None
+onward (s ∷ _) = Some s
 
 -- how many bytes, and how to go on
 abbrev pub answer : Part → Chunk

@@ -1,6 +1,6 @@
 -- The law of the walk, for any use of its stations: what remains are the listed stations from where it stands on, and a move passes the one where it stood.
 use Rattle.std.specs.Prelude.{◌≡◌, ℕ, suc, ◌+◌, ◌≤◌, ◌<◌, min}
-use Rattle.std.proofs.Common.{sym, ap, ◌∙◌, subst, arith}
+use Rattle.std.proofs.Common.{ap, ◌∙◌, subst, arith}
 use mathlib.Core.List.Memᴰ
 use mathlib.Core.List.{List, ◌∷◌, Memᴰ}
 use Rattle.std.proofs.Math.Decide.{dec_le}
@@ -11,7 +11,6 @@ use Rattle.laws_of_acceptance.specs.Guaranteed.{Guaranteed}
 use Rattle.segment.specs.Segment.{Shows}
 use Rattle.cursors.specs.Places.{PlaceReached}
 use Rattle.cursors.specs.View.{Viewed, viewed_later, multiple-listed}
-use Rattle.cursors.specs.declared.View.{View}
 use Rattle.walk.specs.FittingRows.{not_below}
 use Rattle.walk.specs.NotBelow.{from-same, from_first}
 use Rattle.walk.specs.Inside.{listed-ascends}
@@ -33,14 +32,9 @@ pub record Entered (r : Road) (x : ℕ) (w : Walk) : Type 0 where
   pub stands : Stands r w
   pub inside : x ≤ total r → x < w.view.joint
 
-pub before-joint : (w : Walk) {v : View} → w.view ≡ v → w.station < v.joint → w.station < w.view.joint
-before-joint w e h = subst (λ (v : View). w.station < v.joint) (sym e) h
-
 -- the segment shows the road where the walk stands
-pub shown_here : {r : Road} {w : Walk} {v : View} → Stands r w → w.view ≡ v → w.station < v.joint → Shows r v.segment w.station
-shown_here {r} {w} s e h =
-    let j = before-joint w e h in
-    subst (λ (v : View). Shows r v.segment w.station) e ((s.seen j).shows w.station (omega arith) j (omega (arith, (s.seen j).end)))
+pub shown_here : {r : Road} {w : Walk} → Stands r w → w.station < w.view.joint → Shows r w.view.segment w.station
+shown_here {r} {w} s h = (s.seen h).shows w.station (omega arith) h (omega (arith, (s.seen h).end))
 
 -- one station on
 abbrev pub moved : (step : ℕ) → Walk → Walk

@@ -1,12 +1,7 @@
 -- All is the law of the walk.
-use Rattle.std.proofs.Common.{ap, ◌∙◌, ℕ, ◌-◌, length, arith}
-use Rattle.road.specs.Held.{road_in}
-use Rattle.road.specs.Line.{line}
-use Rattle.walk.specs.FittingRows.{rows_that_fit}
-use Rattle.walk.specs.Parts.{fit_none}
-use Rattle.walk.specs.Inside.{none-listed}
+use Rattle.std.proofs.Common.{ap, ◌∙◌, ℕ, arith}
 use Rattle.walk.specs.Walks.{shown_here, moved}
-use Rattle.walk.proofs.Going.{going-length, going_answers, walking_starts, entered-inside, walked, full}
+use Rattle.walk.proofs.Going.{going-length, walking_starts, entered-inside, walked, full, done}
 use Rattle.walk.proofs.rows_on.Goals as goal
 
 pub loop-walk-init : goal.loop-walk-init
@@ -15,33 +10,30 @@ loop-walk-init c = let e = c.begin-walk.ensures in record { walking = walking_st
 -- less than 96 bytes remain
 pub returns-then-out-bytes-lt96-clause-value : goal.returns-then-out-bytes-lt96-clause-value
 returns-then-out-bytes-lt96-clause-value c =
-    let k = c.loop-walk-2.invariant in
-    (full c.requires.ready.alignment.road k c.loop-walk-2-test.true (omega (arith, going-length k.going))).0
+    let k = c.loop-walk-2.invariant.walking in
+    (full c.step-step.ensures.guaranteed k c.loop-walk-2-test.true (omega (arith, going-length k.going))).0
 
 pub returns-then-out-bytes-lt96-clause-out_after : goal.returns-then-out-bytes-lt96-clause-out_after
 returns-then-out-bytes-lt96-clause-out_after c =
-    let k = c.loop-walk-2.invariant in
-    (full c.requires.ready.alignment.road k c.loop-walk-2-test.true (omega (arith, going-length k.going))).1
+    let k = c.loop-walk-2.invariant.walking in
+    (full c.step-step.ensures.guaranteed k c.loop-walk-2-test.true (omega (arith, going-length k.going))).1
 
 pub put_line-bytes-requires-clause-sound : goal.put_line-bytes-requires-clause-sound
-put_line-bytes-requires-clause-sound c = let k = c.loop-walk-2.invariant in (shown_here k.stands k.view c.loop-walk-2-test.true).sound
+put_line-bytes-requires-clause-sound c = (shown_here c.loop-walk-2.invariant.walking.stands c.loop-walk-2-test.true).sound
 
 -- one row written, one station on
 pub loop-walk-2-preserved : goal.loop-walk-2-preserved
 loop-walk-2-preserved c =
-    let k = c.loop-walk-2.invariant in
-    let on = c.move_on-walk.ensures ∙ ap (λ (n : ℕ). moved n c.loop-walk-2.walk) c.step_of-step.ensures in
-    (walked c.requires.ready.alignment.road k c.loop-walk-2-test.true (omega (arith, going-length k.going)) c.put_line-bytes.ensures.wrote c.put_line-bytes.ensures.most on).0
+    let k = c.loop-walk-2.invariant.walking in
+    let on = c.move_on.ensures ∙ ap (λ (n : ℕ). moved n c.loop-walk-2.walk) c.step-step.ensures.step in
+    record {
+      walking = (walked c.step-step.ensures.guaranteed k c.loop-walk-2-test.true (omega (arith, going-length k.going)) c.put_line-bytes.ensures.wrote c.put_line-bytes.ensures.most on).0;
+      ahead = rw on c.loop-walk-2.invariant.ahead;
+    }
 
 -- the list is done
 pub returns-clause-value : goal.returns-clause-value
-returns-clause-value c =
-    let r = road_in c.args.road.alignment in
-    let room = length c.args.out.now - c.loop-walk.bytes in
-    (going_answers c.loop-walk.invariant.walking.going (ap (rows_that_fit (line r) room) (none-listed c.requires.ready.alignment.road c.loop-walk.walk.station (omega arith)) ∙ fit_none (line r) room)).0
+returns-clause-value c = (done c.step-step.ensures.guaranteed c.loop-walk.invariant.walking (omega arith)).0
 
 pub returns-clause-out_after : goal.returns-clause-out_after
-returns-clause-out_after c =
-    let r = road_in c.args.road.alignment in
-    let room = length c.args.out.now - c.loop-walk.bytes in
-    (going_answers c.loop-walk.invariant.walking.going (ap (rows_that_fit (line r) room) (none-listed c.requires.ready.alignment.road c.loop-walk.walk.station (omega arith)) ∙ fit_none (line r) room)).1
+returns-clause-out_after c = (done c.step-step.ensures.guaranteed c.loop-walk.invariant.walking (omega arith)).1
