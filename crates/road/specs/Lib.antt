@@ -19,3 +19,4 @@ pub mod Starred
 pub mod AtLimits
 pub mod Text
 pub mod Sample
+pub mod Said

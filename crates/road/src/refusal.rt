@@ -86,6 +86,13 @@ impl Rule {
 }
 
 impl Fault {
+    // The refusal at a place.
+    pub fn at(self, place: usize) -> Refusal
+        ensures { result ≡ record { fault = self; place = place } }
+    {
+        Refusal { fault: self, place }
+    }
+
     // The number by which the papers know it.
     pub fn number(self) -> u32
         ensures { result ≡ fault_number self }
