@@ -4,10 +4,12 @@ use Rattle.std.proofs.Common.{sym, ap, ◌∙◌, arith, take-suc}
 use Rattle.std.proofs.Math.IntN.{+ℤ_assoc, +ℤ_idl, +ℤ_idr}
 use Rattle.road.specs.Base.{sum_of}
 use Rattle.road.specs.File.{Road}
-use Rattle.road.specs.Exact.{blank_tangent, tangent_of, point_of, element_start, tangent_start, total, vertex_count, vertex, half_length, rise, half_before_of}
+use Rattle.road.specs.Exact.{blank_tangent, tangent_of, point_of, element_start, element_at, tangent_start, tangent_at, point_at, total, vertex_count, vertex, half_length, rise, half_before_of}
 use Rattle.laws_of_acceptance.specs.Lists.{element-step, tangent-step}
 use Rattle.road.specs.declared.Tangent.{Tangent}
-use Rattle.laws_of_search.specs.Last.{Rising, rises_to}
+use Rattle.laws_of_search.specs.Last.{Rising, rises_to, Begun, begun}
+use Rattle.laws_of_acceptance.specs.PointOrder.{PointOrder}
+use Rattle.laws_of_acceptance.specs.PointOrder as ordered
 
 -- ---- where tangents and elements begin
 rise-append : (l : List Tangent) (t : Tangent) → rise (l ++ (t ∷ [])) ≡ rise l +ℤ t.grade *ℤ pos t.length
@@ -40,34 +42,33 @@ pub record Facts (r : Road) : Type 0 where
   pub ascend : (i : ℕ) → suc i < length r.crossfalls → (point_of r i).station < (point_of r (suc i)).station
   pub last : (i : ℕ) → suc i ≡ length r.crossfalls → (point_of r i).station ≡ total r
 
--- two points or more, in the order of rule 16
-pub record Placed (r : Road) : Type 0 where
-  pub points : 2 ≤ length r.crossfalls
-  pub first : (point_of r 0).station ≡ 0
-  pub ascend : (i : ℕ) → suc i < length r.crossfalls → (point_of r i).station < (point_of r (suc i)).station
-  pub last : (i : ℕ) → suc i ≡ length r.crossfalls → (point_of r i).station ≡ total r
-
-pub placed : {r : Road} → Facts r → Placed r
-placed F = record { points = F.points; first = F.first; ascend = F.ascend; last = F.last }
-
--- the stations of the points, up to the last
-pub placed-rise : {r : Road} → Placed r → Rising (λ i. (point_of r i).station) (length r.crossfalls - 1)
-unfolding Rising
-placed-rise P i h = let l = P.ascend i (omega arith) in omega arith
-
-pub placed_end : {r : Road} → Placed r → (point_of r (length r.crossfalls - 1)).station ≡ total r
-placed_end {r} P = let two = P.points in P.last (length r.crossfalls - 1) (omega arith)
+-- the order of rule 16
+pub order : {r : Road} → Facts r → PointOrder r
+order F = record { first = F.first; ascend = F.ascend; last = F.last }
 
 pub points-rise : {r : Road} → Facts r → Rising (λ i. (point_of r i).station) (length r.crossfalls - 1)
-points-rise F = placed-rise (placed F)
+points-rise F = ordered.points-rise (order F)
 
 pub points-end : {r : Road} → Facts r → (point_of r (length r.crossfalls - 1)).station ≡ total r
-points-end F = placed_end (placed F)
+points-end {r} F = let two = F.points in F.last (length r.crossfalls - 1) (omega arith)
 
 pub points-inside : {r : Road} → Facts r → (i : ℕ) → i < length r.crossfalls → (point_of r i).station ≤ total r
 points-inside {r} F i h =
     let n : ℕ = length r.crossfalls - 1 in
     omega (arith, rises_to (λ i. (point_of r i).station) n i n (points-rise F) (omega arith) (omega arith), points-end F)
+
+-- ---- the tangent, the pair of points and the element of a station
+module _ {r : Road} (F : Facts r) (s : ℕ) where
+  pub tangent-begun : Begun (tangent_start r) (length r.tangents) s (tangent_at r s)
+  unfolding tangent_at
+  tangent-begun = begun (tangent_start r) (length r.tangents) s F.tangents (omega (arith, start_first r))
+
+  pub pair-begun : Begun (λ i. (point_of r i).station) (length r.crossfalls - 1) s (point_at r s)
+  pair-begun = let two = F.points in ordered.pair-at (order F) s (omega arith)
+
+pub element-begun : (r : Road) (s : ℕ) → 0 < length r.plan → Begun (element_start r) (length r.plan) s (element_at r s)
+unfolding element_at element_start sum_of
+element-begun r s h = begun (element_start r) (length r.plan) s h (omega arith)
 
 -- a vertex without a curve has one grade on both sides: rule 15
 abbrev pub Level : Road → Type 0

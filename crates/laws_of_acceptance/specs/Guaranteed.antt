@@ -9,13 +9,11 @@ use Rattle.road.specs.Lane.{lane_width}
 use Rattle.road.specs.Rules.{accepted}
 use Rattle.laws_of_acceptance.specs.PlanOrder.{Stands, PlanOrder}
 use Rattle.laws_of_acceptance.specs.Links.{Egg, egg_arcs}
-use Rattle.laws_of_acceptance.specs.Ranged.{Within}
+use Rattle.laws_of_acceptance.specs.Ranged.{Within, StartRange}
 use Rattle.laws_of_acceptance.specs.Positive.{Accepted, accepted-road, plan_ordered, facts}
 use Rattle.laws_of_acceptance.specs.Table.{lane_range}
 use Rattle.laws_of_acceptance.specs.Facts.{Facts, Level, points-inside, curve-begins, curve-ends}
 use Rattle.laws_of_acceptance.specs.Ranges.{element_in, tangent_in, crossfall_in_lem, total-small, total-positive, element-inside, tangent-inside, level}
-use Rattle.laws_of_acceptance.specs.Refusals.{accepted_iff}
-use Rattle.laws_of_acceptance.specs.ReadRanges.{StartRange, ReadRange, read-ranges}
 
 pub record Guaranteed (r : Road) : Type 0 where
   -- in range, and no rule broken
@@ -56,8 +54,8 @@ pub record Guaranteed (r : Road) : Type 0 where
   pub point-station : (i : ℕ) → i < length r.crossfalls → (point_of r i).station ≤ total r
   pub crossfall : (d : Side) (i : ℕ) → i < length r.crossfalls → nat_abs (crossfall_of d (point_of r i)) ≤ 80000
 
-both : {r : Road} → Accepted r → ReadRange r → Guaranteed r
-both {r} A R =
+pub of_accepted : {r : Road} → Accepted r → Guaranteed r
+of_accepted {r} A =
     let F = facts A in
     record {
       accepted_as = A;
@@ -74,12 +72,12 @@ both {r} A R =
       element-length = λ i h. (element_in A i h).length;
       radius = λ i h. (element_in A i h).radius.arc;
       element-start = element-inside A;
-      start = R.start;
+      start = A.ranges.profile.start-range;
       start-size = A.ranges.profile.start;
       tangent-length = λ i h. (tangent_in A i h).length;
       grade = λ i h. (tangent_in A i h).grade;
       half = λ i h. (tangent_in A i h).half;
-      last-half = R.last-half;
+      last-half = A.ranges.profile.last-half;
       level_vertex = level A;
       tangent-start = tangent-inside A;
       curve-start = λ i h. omega (arith, curve-begins F i h);
@@ -89,4 +87,4 @@ both {r} A R =
     }
 
 pub guaranteed : (f : List ℕ) (r : Road) (end : ℕ) → accepted f ≡ got r end → Guaranteed r
-guaranteed f r end e = both (accepted-road f r end e) (read-ranges f r end ((accepted_iff f r end).0 e).0)
+guaranteed f r end e = of_accepted (accepted-road f r end e)

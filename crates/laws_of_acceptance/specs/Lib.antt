@@ -11,5 +11,4 @@ pub mod Table
 pub mod Refusals
 pub mod Facts
 pub mod Ranges
-pub mod ReadRanges
 pub mod Guaranteed

@@ -1,8 +1,7 @@
 -- Rule 23, in words: the arcs beside an egg, and those around a pair of clothoids.
 use Rattle.std.specs.Prelude.{◌≡◌, Bool, true, false, not, ◌||◌, ℕ, suc, ◌≤◌, ltb, eqb, ℤ, nat_abs}
 use Rattle.std.proofs.Common.{ltb-false, eq-eqb}
-use Rattle.std.proofs.lemmas.Bool.{not-false}
-use Rattle.laws_of_lists.specs.Tests.{or_left, or_right, true_false}
+use Rattle.std.proofs.lemmas.Bool.{not-false, both_ways, or_parts}
 use Rattle.road.specs.File.{Road}
 use Rattle.road.specs.Limits.{limits}
 use Rattle.road.specs.Exact.{element_of}
@@ -23,17 +22,17 @@ pub record Egg (first second : ℤ) : Type 0 where
   pub second-high : nat_abs second ≤ 1000000
 
 no_four : (a b c d : Bool) → (((a || b) || c) || d) ≡ false → (a ≡ false) × (b ≡ false) × (c ≡ false) × (d ≡ false)
-no_four a b c d e = let three = or_left ((a || b) || c) d e in let two = or_left (a || b) c three in (or_left a b two, or_right a b two, or_right (a || b) c three, or_right ((a || b) || c) d e)
+no_four a b c d e = let three = (or_parts ((a || b) || c) d e).0 in let two = (or_parts (a || b) c three).0 in ((or_parts a b two).0, (or_parts a b two).1, (or_parts (a || b) c three).1, (or_parts ((a || b) || c) d e).1)
 
 right-egg : (a b : ℤ) → wrong_egg a b ≡ false → Egg a b
 unfolding wrong_egg
 right-egg a b h =
     let n = no_four (eqb (nat_abs a) (nat_abs b)) (not (same_turn a b)) (ltb 1000000 (nat_abs a)) (ltb 1000000 (nat_abs b)) h in
-    record { turn = not-false _ n.1; different = λ e. true_false _ (eq-eqb _ _ e) n.0; first-high = ltb-false _ _ n.2; second-high = ltb-false _ _ n.3 }
+    record { turn = not-false _ n.1; different = λ e. both_ways _ n.0 (eq-eqb _ _ e); first-high = ltb-false _ _ n.2; second-high = ltb-false _ _ n.3 }
 
 egg_of : (a b e c : Element) → b.kind ≡ Arc → e.kind ≡ Clothoid → c.kind ≡ Arc → wrong_link a b e c ≡ false → wrong_egg b.radius c.radius ≡ false
 unfolding wrong_link
-egg_of a b e c kb ke kc h = or_left (wrong_egg b.radius c.radius) false (rw (kb, ke, kc) at h)
+egg_of a b e c kb ke kc h = (or_parts (wrong_egg b.radius c.radius) false (rw (kb, ke, kc) at h)).0
 
 pair_of : (a b e c : Element) → a.kind ≡ Arc → b.kind ≡ Clothoid → e.kind ≡ Clothoid → c.kind ≡ Arc → wrong_link a b e c ≡ false → same_turn a.radius c.radius ≡ false
 unfolding wrong_link

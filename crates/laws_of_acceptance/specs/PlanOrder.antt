@@ -4,7 +4,7 @@ use Rattle.std.proofs.Common.{ap, ⊎_elim, arith}
 use Rattle.std.proofs.Math.Bool.{false}
 use Rattle.std.proofs.Math.Decide.{dec_lt}
 use borrow.Author.Tests.{lt-ltb, le-ltb, not-false}
-use Rattle.laws_of_lists.specs.Tests.{true_false, and_left, and_right, or_yes}
+use Rattle.std.proofs.lemmas.Bool.{and_parts, both_ways, or_cases}
 use Rattle.road.specs.File.{Road, straight_kind, arc_kind, clothoid_kind}
 use Rattle.road.specs.declared.Limits.{Limits}
 use Rattle.road.specs.Exact.{element_of, is_straight, is_arc, is_clothoid}
@@ -38,7 +38,7 @@ pub record BendBefore (r : Road) (i : ℕ) : Type 0 where
 
 behind-clothoid : (a b e : Element) → b.kind ≡ Clothoid → a.kind ≡ Straight → may_follow a b e ≡ true → e.kind ≡ Arc
 unfolding may_follow
-behind-clothoid a b e k j h = ⊎_elim (is-arc-kind e.kind) (λ q. absurd (true_false false q refl)) (or_yes (is_arc e) false (rw (k, j) at h))
+behind-clothoid a b e k j h = ⊎_elim (is-arc-kind e.kind) (λ q. absurd (both_ways false refl q)) (or_cases (is_arc e) false (rw (k, j) at h))
 
 behind-other : (a b e : Element) → is_clothoid b ≡ false → may_follow a b e ≡ true → e.kind ≡ Clothoid
 unfolding may_follow
@@ -49,8 +49,8 @@ unfolding may_follow
 before-straight a b e k h = go (is_clothoid b) refl
   where
     go : (t : Bool) → is_clothoid b ≡ t → (b.kind ≡ Clothoid) × (a.kind ≡ Arc)
-    go true t = (is-clothoid-kind b.kind t, is-arc-kind a.kind (and_left (is_arc a) true (rw (t, k) at h)))
-    go false t = absurd (true_false false (rw (t, k) at h) refl)
+    go true t = (is-clothoid-kind b.kind t, is-arc-kind a.kind (and_parts (is_arc a) true (rw (t, k) at h)).0)
+    go false t = absurd (both_ways false refl (rw (t, k) at h))
 
 module _ (l : Limits) (r : Road) (kept : Keeps (rule.Element element.Kinds) l r) where
   follows : (i : ℕ) → suc i < length r.plan → may_follow (element_before r i) (element_of r i) (element_of r (suc i)) ≡ true
@@ -63,14 +63,14 @@ module _ (l : Limits) (r : Road) (kept : Keeps (rule.Element element.Kinds) l r)
   last-is i e =
       let k : wrong_kind (suc i) (length r.plan) _ (element_of r i) _ ≡ false = kept (suc i) (omega arith) in
       let n = not-false _ (rw (le-ltb (suc i) (length r.plan) (omega arith)) at k) in
-      and_right (ltb 0 (suc i)) (is_straight (element_of r i)) n
+      (and_parts (ltb 0 (suc i)) (is_straight (element_of r i)) n).1
 
   goes_on : {k : Kind} (i : ℕ) → Stands r k i → straight_kind k ≡ false → suc i < length r.plan
   goes_on i s other = go (dec_lt (suc i) (length r.plan))
     where
       go : Dec (suc i < length r.plan) → suc i < length r.plan
       go (yes h) = h
-      go (no n) = let w = s.within in absurd (true_false (is_straight (element_of r i)) (last-is i (omega (arith, n))) (rw s.is other))
+      go (no n) = let w = s.within in absurd (both_ways (is_straight (element_of r i)) (rw s.is other) (last-is i (omega (arith, n))))
 
   into_clothoid : {k : Kind} (i : ℕ) → Stands r k i → clothoid_kind k ≡ false → suc i < length r.plan → Stands r Clothoid (suc i)
   into_clothoid i s other h = record { within = h; is = behind-other _ (element_of r i) _ (rw s.is other) (follows i h) }
@@ -79,7 +79,7 @@ module _ (l : Limits) (r : Road) (kept : Keeps (rule.Element element.Kinds) l r)
   bend-before i s = go i s.within (before-straight (element_before r i) (element_of r i) (element_of r (suc i)) s.is (follows i s.within))
     where
       go : (i : ℕ) → suc i < length r.plan → ((element_of r i).kind ≡ Clothoid) × ((element_before r i).kind ≡ Arc) → BendBefore r i
-      go zero h k = absurd (true_false false (ap arc_kind k.1) refl)
+      go zero h k = absurd (both_ways false refl (ap arc_kind k.1))
       go (suc j) h k = record { clothoid = record { within = omega arith; is = k.0 }; place = j; next = refl; arc = record { within = omega arith; is = k.1 } }
 
   pub plan-order : PlanOrder r

@@ -1,11 +1,13 @@
 -- What holds of a road that was read: every number is in its range.
-use Rattle.std.specs.Prelude.{◌≡◌, refl, ℕ, zero, suc, ◌≤◌, Bool, true, false, ◌&&◌, List, [], ◌∷◌, length, T, leb, ltb, ℤ, pos, negsuc, nat_abs, if◌then◌else◌}
+use Rattle.std.specs.Prelude.{◌≡◌, refl, ℕ, zero, suc, ◌-◌, ◌≤◌, ◌≤ℤ◌, get_or, Bool, true, false, ◌&&◌, List, [], ◌∷◌, length, T, leb, ltb, ℤ, pos, negsuc, nat_abs, if◌then◌else◌}
 use Rattle.std.proofs.Common.{sym, ap, ◌∙◌, subst, arith, leb→le}
 use Rattle.file_numbers.specs.Reading.{Got, got, refused, and_then, Reading}
 use Rattle.file_numbers.specs.Reading.{many}
 use Rattle.laws_of_lists.specs.All.{All, none, more}
-use Rattle.laws_of_lists.specs.Tests.{and_T, true_false}
-use Rattle.road.specs.Exact.{is_arc}
+use Rattle.std.proofs.lemmas.Bool.{both_ways}
+use Rattle.laws_of_lists.specs.Tests.{and_T}
+use Rattle.std.specs.Int.Signed.{le_z}
+use Rattle.road.specs.Exact.{is_arc, blank_tangent}
 use Rattle.file_numbers.specs.Refused.{refused_not_got}
 use Rattle.file_numbers.specs.Number.{number}
 use Rattle.days.specs.Day.{is_day}
@@ -18,16 +20,10 @@ use Rattle.road.specs.declared.Element.{Element}
 use Rattle.road.specs.declared.Tangent.{Tangent}
 use Rattle.road.specs.declared.Crossfall.{Crossfall}
 
--- what a step that gave a value went on from
-pub record Went {A B : Type 0} (m : Got A) (f : A → ℕ → Got B) (b : B) (last : ℕ) : Type 0 where
-  pub value : A
-  pub next : ℕ
-  pub first : m ≡ got value next
-  pub rest : f value next ≡ got b last
-
-pub went : {A B : Type 0} (m : Got A) (f : A → ℕ → Got B) {b : B} {last : ℕ} → and_then m f ≡ got b last → Went m f b last
-went (got a next) f e = record { value = a; next = next; first = refl; rest = e }
-went (refused k p) f e = absurd (refused_not_got e)
+-- a step that gave a value: what it went on from, as a continuation
+pub on : {A B C : Type 0} (m : Got A) (f : A → ℕ → Got B) {b : B} {last : ℕ} → and_then m f ≡ got b last → ((a : A) (next : ℕ) → m ≡ got a next → f a next ≡ got b last → C) → C
+on (got a next) f e k = k a next refl e
+on (refused n p) f e k = absurd (refused_not_got e)
 
 fits_read : {A : Type 0} (refusal : ℕ) (fits : A → Bool) (a : A) (at : ℕ) (s : List ℕ) (next : ℕ) {b : A} {last : ℕ} → fitting refusal fits a at s next ≡ got b last → T (fits b)
 unfolding fitting
@@ -44,13 +40,13 @@ pub record Within (a b v : ℕ) : Type 0 where
 pub field-within : (low high : ℕ) (s : List ℕ) (at : ℕ) {v next : ℕ} → field low high s at ≡ got v next → Within low high v
 unfolding field
 field-within low high s at {v} e =
-    let w = went (number s at) _ e in
-    let t = and_T (leb low v) (leb v high) (fits_read 3 (λ (n : ℕ). leb low n && leb n high) w.value at s w.next w.rest) in
+    on (number s at) _ e λ n next _ h.
+    let t = and_T (leb low v) (leb v high) (fits_read 3 (λ (n : ℕ). leb low n && leb n high) n at s next h) in
     record { low = leb→le low v t.0; high = leb→le v high t.1 }
 
 pub signed-fits : (fits : ℤ → Bool) (s : List ℕ) (at : ℕ) {v : ℤ} {next : ℕ} → signed fits s at ≡ got v next → T (fits v)
 unfolding signed
-signed-fits fits s at e = let w = went (number s at) _ e in fits_read 3 fits (signed_of w.value) at s w.next w.rest
+signed-fits fits s at e = on (number s at) _ e λ n next _ h. fits_read 3 fits (signed_of n) at s next h
 
 -- ---- the three lists
 
@@ -63,12 +59,11 @@ pub many_items : {A : Type 0} (P : A → Type 0) (one : ℕ → Reading A) → (
 unfolding many
 many_items P one law zero s at {l} e = let q : [] ≡ l = cc in subst (Items P zero) q (record { count = refl; each = none })
 many_items P one law (suc n) s at {l} e =
-    let w = went (one n s at) _ e in
-    let v = went (many one n s w.next) _ w.rest in
-    let ih = many_items P one law n s w.next v.first in
-    let f = v.rest in
-    let q : w.value ∷ v.value ≡ l = cc in
-    subst (Items P (suc n)) q (record { count = ap suc ih.count; each = more (law n s at w.value w.next w.first) ih.each })
+    on (one n s at) _ e λ x a ea h1.
+    on (many one n s a) _ h1 λ xs b eb h2.
+    let ih = many_items P one law n s a eb in
+    let same : x ∷ xs ≡ l = cc in
+    subst (Items P (suc n)) same (record { count = ap suc ih.count; each = more (law n s at x a ea) ih.each })
 
 -- "for an arc a signed radius, 10,000 to 10,000,000 in size"; of what is no arc it is 0
 pub record RadiusRange (e : Element) : Type 0 where
@@ -79,10 +74,10 @@ arc-radius : (b : Bool) (s : List ℕ) (at : ℕ) {v : ℤ} {next : ℕ} → rad
 arc-radius true s at {v} e q =
     let t = and_T (leb 10000 (nat_abs v)) (leb (nat_abs v) 10000000) (signed-fits (in_size 10000 10000000) s at e) in
     record { low = leb→le 10000 (nat_abs v) t.0; high = leb→le (nat_abs v) 10000000 t.1 }
-arc-radius false s at e q = absurd (true_false false q refl)
+arc-radius false s at e q = absurd (both_ways false refl q)
 
 other-radius : (b : Bool) (s : List ℕ) (at : ℕ) {v : ℤ} {next : ℕ} → radius b s at ≡ got v next → b ≡ false → v ≡ pos 0
-other-radius true s at e q = absurd (true_false true refl q)
+other-radius true s at e q = absurd (both_ways true q refl)
 other-radius false s at e q = cc
 
 pub record ElementRange (e : Element) : Type 0 where
@@ -92,12 +87,11 @@ pub record ElementRange (e : Element) : Type 0 where
 pub element_range : (s : List ℕ) (at : ℕ) {e : Element} {next : ℕ} → element s at ≡ got e next → ElementRange e
 unfolding element
 element_range s at {e} h =
-    let a = went (choice 0 2 kind_of s at) _ h in
-    let b = went (field 1 10_000_000 s a.next) _ a.rest in
-    let c = went (radius (arc_kind a.value) s b.next) _ b.rest in
-    let f = c.rest in
-    let q : record { kind = a.value; length = b.value; radius = c.value } ≡ e = cc in
-    subst ElementRange q (record { length = field-within 1 10_000_000 s a.next b.first; radius = record { arc = arc-radius (arc_kind a.value) s b.next c.first; other = other-radius (arc_kind a.value) s b.next c.first } })
+    on (choice 0 2 kind_of s at) _ h λ kind a ea h1.
+    on (field 1 10_000_000 s a) _ h1 λ long b eb h2.
+    on (radius (arc_kind kind) s b) _ h2 λ r c ec h3.
+    let same : record { kind = kind; length = long; radius = r } ≡ e = cc in
+    subst ElementRange same (record { length = field-within 1 10_000_000 s a eb; radius = record { arc = arc-radius (arc_kind kind) s b ec; other = other-radius (arc_kind kind) s b ec } })
 
 -- from low to high, as the tests of the reader have it
 abs_between : (n m : ℕ) (v : ℤ) → T (between (negsuc n) (pos m) v) → suc n ≤ m → nat_abs v ≤ m
@@ -116,16 +110,36 @@ half_range (suc k) s at e = (field-within 0 1_000_000 s at e).high
 pub tangent_range : (k : ℕ) (s : List ℕ) (at : ℕ) (t : Tangent) (next : ℕ) → tangent k s at ≡ got t next → TangentRange t
 unfolding tangent
 tangent_range k s at t next h =
-    let a = went (field 1 10_000_000 s at) _ h in
-    let b = went (signed (between (negsuc 119_999) (pos 120_000)) s a.next) _ a.rest in
-    let c = went (half k s b.next) _ b.rest in
-    let f = c.rest in
-    let q : record { length = a.value; grade = b.value; half = c.value } ≡ t = cc in
-    subst TangentRange q (record {
-      length = field-within 1 10_000_000 s at a.first;
-      grade = abs_between 119_999 120_000 b.value (signed-fits (between (negsuc 119_999) (pos 120_000)) s a.next b.first) (omega arith);
-      half = half_range k s b.next c.first;
+    on (field 1 10_000_000 s at) _ h λ long a ea h1.
+    on (signed (between (negsuc 119_999) (pos 120_000)) s a) _ h1 λ grade b eb h2.
+    on (half k s b) _ h2 λ half c ec h3.
+    let same : record { length = long; grade = grade; half = half } ≡ t = cc in
+    subst TangentRange same (record {
+      length = field-within 1 10_000_000 s at ea;
+      grade = abs_between 119_999 120_000 grade (signed-fits (between (negsuc 119_999) (pos 120_000)) s a eb) (omega arith);
+      half = half_range k s b ec;
     })
+
+-- "then, except after the last, half length h": no curve follows the last tangent
+tangent-last : (s : List ℕ) (at : ℕ) {t : Tangent} {next : ℕ} → tangent 0 s at ≡ got t next → t.half ≡ 0
+unfolding tangent
+tangent-last s at {t} h =
+    on (field 1 10_000_000 s at) _ h λ long a ea h1.
+    on (signed (between (negsuc 119_999) (pos 120_000)) s a) _ h1 λ grade b eb h2.
+    let same : record { length = long; grade = grade; half = 0 } ≡ t = cc in
+    ap (λ (x : Tangent). x.half) (sym same)
+
+tangents-last : (n : ℕ) (s : List ℕ) (at : ℕ) {l : List Tangent} {next : ℕ} → many tangent (suc n) s at ≡ got l next → (get_or l n blank_tangent).half ≡ 0
+unfolding many
+tangents-last zero s at {l} e =
+    on (tangent 0 s at) _ e λ t a ea h1.
+    let same : t ∷ [] ≡ l = cc in
+    subst (λ (x : List Tangent). (get_or x 0 blank_tangent).half ≡ 0) same (tangent-last s at ea)
+tangents-last (suc n) s at {l} e =
+    on (tangent (suc n) s at) _ e λ t a ea h1.
+    on (many tangent (suc n) s a) _ h1 λ ts b eb h2.
+    let same : t ∷ ts ≡ l = cc in
+    subst (λ (x : List Tangent). (get_or x (suc n) blank_tangent).half ≡ 0) same (tangents-last n s a eb)
 
 pub record PointRange (p : Crossfall) : Type 0 where
   pub station : p.station ≤ 100_000_000
@@ -135,23 +149,17 @@ pub record PointRange (p : Crossfall) : Type 0 where
 pub point_range : (s : List ℕ) (at : ℕ) (p : Crossfall) (next : ℕ) → point s at ≡ got p next → PointRange p
 unfolding point
 point_range s at p next h =
-    let a = went (field 0 100_000_000 s at) _ h in
-    let b = went (signed (between (negsuc 79_999) (pos 80_000)) s a.next) _ a.rest in
-    let c = went (signed (between (negsuc 79_999) (pos 80_000)) s b.next) _ b.rest in
-    let f = c.rest in
-    let q : record { station = a.value; left = b.value; right = c.value } ≡ p = cc in
-    subst PointRange q (record {
-      station = (field-within 0 100_000_000 s at a.first).high;
-      left = abs_between 79_999 80_000 b.value (signed-fits (between (negsuc 79_999) (pos 80_000)) s a.next b.first) (omega arith);
-      right = abs_between 79_999 80_000 c.value (signed-fits (between (negsuc 79_999) (pos 80_000)) s b.next c.first) (omega arith);
+    on (field 0 100_000_000 s at) _ h λ station a ea h1.
+    on (signed (between (negsuc 79_999) (pos 80_000)) s a) _ h1 λ left b eb h2.
+    on (signed (between (negsuc 79_999) (pos 80_000)) s b) _ h2 λ right c ec h3.
+    let same : record { station = station; left = left; right = right } ≡ p = cc in
+    subst PointRange same (record {
+      station = (field-within 0 100_000_000 s at ea).high;
+      left = abs_between 79_999 80_000 left (signed-fits (between (negsuc 79_999) (pos 80_000)) s a eb) (omega arith);
+      right = abs_between 79_999 80_000 right (signed-fits (between (negsuc 79_999) (pos 80_000)) s b ec) (omega arith);
     })
 
 -- ---- the road
-
--- the same with what follows as a continuation: its variables stay short where a chain of `let`s would be written out
-on : {A B C : Type 0} (m : Got A) (f : A → ℕ → Got B) {b : B} {last : ℕ} → and_then m f ≡ got b last → ((a : A) (next : ℕ) → m ≡ got a next → f a next ≡ got b last → C) → C
-on (got a next) f e k = k a next refl e
-on (refused n p) f e k = absurd (refused_not_got e)
 
 -- the date of a contract is a day
 abbrev pub ContractRange : Contract → Type 0
@@ -160,7 +168,7 @@ ContractRange (Dated day) = T (is_day day)
 
 date-read : (s : List ℕ) (at : ℕ) {v next : ℕ} → date s at ≡ got v next → T (is_day v)
 unfolding date
-date-read s at e = let w = went (number s at) _ e in fits_read 22 is_day w.value at s w.next w.rest
+date-read s at e = on (number s at) _ e λ n next _ h. fits_read 22 is_day n at s next h
 
 dated_range : (s : List ℕ) (at : ℕ) {c : Contract} {next : ℕ} → dated_fields s at ≡ got c next → ContractRange c
 unfolding dated_fields
@@ -208,9 +216,16 @@ plan_range s at l next e =
     on (field 1 200 s at) _ e λ n a ea h.
     counted (field-within 1 200 s at ea) (many_items ElementRange (λ _. element) (λ _ s at x n w. element_range s at w) n s a h)
 
+-- "signed start height −500,000 to 3,000,000"
+pub record StartRange (start : ℤ) : Type 0 where
+  pub low : negsuc 499_999 ≤ℤ start
+  pub high : start ≤ℤ pos 3_000_000
+
 pub record ProfileRange (p : Profile) : Type 0 where
   pub start : nat_abs p.start ≤ 3_000_000
+  pub start-range : StartRange p.start
   pub tangents : Counted TangentRange 1 100 p.tangents
+  pub last-half : (get_or p.tangents (length p.tangents - 1) blank_tangent).half ≡ 0
 
 profile_range : (s : List ℕ) (at : ℕ) (p : Profile) (next : ℕ) → profile_fields s at ≡ got p next → ProfileRange p
 unfolding profile_fields
@@ -218,10 +233,19 @@ profile_range s at p next e =
     on (signed (between (negsuc 499_999) (pos 3_000_000)) s at) _ e λ start a ea h1.
     on (field 1 100 s a) _ h1 λ n b eb h2.
     on (many tangent n s b) _ h2 λ tangents c ec h3.
+    let fits = signed-fits (between (negsuc 499_999) (pos 3_000_000)) s at ea in
+    let both = and_T (le_z (negsuc 499_999) start) (le_z start (pos 3_000_000)) fits in
+    let count = field-within 1 100 s a eb in
+    let items = many_items TangentRange tangent tangent_range n s b ec in
+    let some = count.low in
+    let one_more : n ≡ suc (n - 1) = omega arith in
+    let last : length tangents - 1 ≡ n - 1 = omega (arith, items.count) in
     let same : record { start = start; tangents = tangents } ≡ p = cc in
     subst ProfileRange same (record {
-      start = abs_between 499_999 3_000_000 start (signed-fits (between (negsuc 499_999) (pos 3_000_000)) s at ea) (omega arith);
-      tangents = counted (field-within 1 100 s a eb) (many_items TangentRange tangent tangent_range n s b ec);
+      start = abs_between 499_999 3_000_000 start fits (omega arith);
+      start-range = record { low = record { le = both.0 }; high = record { le = both.1 } };
+      tangents = counted count items;
+      last-half = subst (λ (k : ℕ). (get_or tangents k blank_tangent).half ≡ 0) (sym last) (tangents-last (n - 1) s b (subst (λ (k : ℕ). many tangent k s b ≡ got tangents c) one_more ec));
     })
 
 crossfall_range : (s : List ℕ) (at : ℕ) (l : List Crossfall) (next : ℕ) → crossfall_fields s at ≡ got l next → Counted PointRange 2 200 l
@@ -251,14 +275,18 @@ fields_range s at r next e =
       points = crossfall_range s c points d ed;
     })
 
-pub read_range : (s : List ℕ) (r : Road) (next : ℕ) → read s ≡ got r next → RoadRange r
+-- a file that is read has its fields, and nothing behind them
+pub read-fields : (s : List ℕ) (r : Road) (next : ℕ) → read s ≡ got r next → fields s 0 ≡ got r next
 unfolding read ended
-read_range s r next e = go (ltb 8192 (length s)) e
+read-fields s r next e = go (ltb 8192 (length s)) e
   where
-    last : (x : Road) (n : ℕ) → (c : Bool) → (if c then refused 4 n else got x n) ≡ got r next → x ≡ r
-    last x n true h = absurd (refused_not_got h)
-    last x n false h = cc
+    behind : (x : Road) (n : ℕ) (c : Bool) → (if c then refused 4 n else got x n) ≡ got r next → got x n ≡ got r next
+    behind x n true h = absurd (refused_not_got h)
+    behind x n false h = h
 
-    go : (c : Bool) → (if c then refused 1 8192 else and_then (fields s 0) λ r at. ended r s at) ≡ got r next → RoadRange r
+    go : (c : Bool) → (if c then refused 1 8192 else and_then (fields s 0) λ r at. ended r s at) ≡ got r next → fields s 0 ≡ got r next
     go true h = absurd (refused_not_got h)
-    go false h = let w = went (fields s 0) _ h in subst RoadRange (last w.value w.next (ltb w.next (length s)) w.rest) (fields_range s 0 w.value w.next w.first)
+    go false h = on (fields s 0) _ h λ x n first rest. first ∙ behind x n (ltb n (length s)) rest
+
+pub read_range : (s : List ℕ) (r : Road) (next : ℕ) → read s ≡ got r next → RoadRange r
+read_range s r next e = fields_range s 0 r next (read-fields s r next e)

@@ -15,7 +15,7 @@ use Rattle.road.specs.declared.Contract.TheVariants.{Undated}
 use Rattle.road.specs.declared.Rule.{Rule}
 use Rattle.road.specs.declared.Rule.TheVariants as rule
 use Rattle.road.specs.declared.ElementRule.TheVariants as element
-use Rattle.laws_of_acceptance.specs.Ranged.{went, Within}
+use Rattle.laws_of_acceptance.specs.Ranged.{on, Within}
 use Rattle.file_numbers.specs.Refused.{refused_not_got}
 use Rattle.laws_of_lists.specs.Each.{each_below}
 
@@ -54,9 +54,9 @@ accepted_iff f r end = (there, back)
 
     there : accepted f ≡ got r end → (read f ≡ got r end) × ((rule : Rule) → Keeps rule (limits r) r)
     there e =
-        let w = went (read f) _ e in
-        let h = of w.value w.next (judged (limits w.value) w.value) refl w.rest in
-        (w.first ∙ h.0, h.1)
+        on (read f) _ e λ x n first rest.
+        let h = of x n (judged (limits x) x) refl rest in
+        (first ∙ h.0, h.1)
 
     back : (read f ≡ got r end) × ((rule : Rule) → Keeps rule (limits r) r) → accepted f ≡ got r end
     back h = ap (λ (g : Got Road). and_then g λ r at. under (judged (limits r) r) r at) h.0 ∙ ap (λ (v : Verdict). under v r end) (kept-passes (limits r) r order (λ j _. h.1 (rule_at order j)))

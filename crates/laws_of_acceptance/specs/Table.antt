@@ -3,7 +3,8 @@ use Rattle.road.specs.Lane.{lane_width}
 use Rattle.std.specs.Prelude.{Bool, ◌&&◌, List, [], ℕ, ◌-◌, ◌/◌, ◌≤◌, ◌<◌, get_or, leb, ltb}
 use Rattle.std.proofs.Common.{arith, leb→le, ltb→lt}
 use Rattle.road.specs.File.{Road}
-use Rattle.laws_of_lists.specs.Each.{all, each, each_below}
+use Rattle.std.specs.List.{list_all}
+use Rattle.laws_of_lists.specs.Each.{each, each_below}
 use Rattle.laws_of_lists.specs.Tests.{and_T}
 use Rattle.road.specs.declared.Class.{Class}
 use Rattle.road.specs.declared.Terrain.{Terrain}
@@ -15,7 +16,7 @@ speed_most : (class : Class) (terrain : Terrain) → speed class terrain ≤ 100
 unfolding speed
 speed_most class terrain =
     let v : ℕ = get_or (get_or speeds (class_row class) []) (terrain_column terrain) 0 in
-    leb→le v 100 (each (λ v. leb v 100) 0 (get_or speeds (class_row class) []) (each (all (λ v. leb v 100)) [] speeds tt tt (class_row class)) tt (terrain_column terrain))
+    leb→le v 100 (each (λ v. leb v 100) 0 (get_or speeds (class_row class) []) (each (list_all (λ v. leb v 100)) [] speeds tt tt (class_row class)) tt (terrain_column terrain))
 
 -- what the laws above the table ask of a row, the same in both rule books
 pub record Sound (l : Limits) : Type 0 where

@@ -1,10 +1,10 @@
 -- The line between two printed heights: how far it is off, over a part on which the exact height is one quadratic over one denominator.
-use Rattle.std.specs.Prelude.{◌≡◌, [], ◌∷◌, ℕ, ◌+◌, ◌*◌, ◌-◌, ◌≤◌, ◌<◌, ℤ, pos, ◌+ℤ◌, ◌-ℤ◌, ◌*ℤ◌, nat_abs}
+use Rattle.std.specs.Prelude.{◌≡◌, refl, [], ◌∷◌, ℕ, ◌+◌, ◌*◌, ◌-◌, ◌≤◌, ◌<◌, ℤ, pos, ◌+ℤ◌, ◌-ℤ◌, ◌*ℤ◌, nat_abs}
 use Rattle.std.proofs.Common.{ap, ap₂, ◌∙◌, arith, mul-le-mul_left, leb→le, le→leb}
 use Rattle.integers.specs.Bridge.{abs_mul}
 use Rattle.integers.specs.Ring.{◌:+◌, ◌:-◌, ◌:*◌, #, ring, $}
 use Rattle.integers.specs.Fraction.{◌÷◌, whole, ◌-ᶠ◌, size, ◌≤ᶠ◌}
-use Rattle.road.specs.Exact.{from◌to◌}
+use Rattle.laws_of_pieces.specs.Joints.{ahead_by}
 use Rattle.laws_of_blade.specs.Surface.{straight}
 use Rattle.laws_of_blade.specs.Quadratic.{chord}
 
@@ -36,9 +36,6 @@ near p n m D h =
     let l : nat_abs (p *ℤ pos D -ℤ n *ℤ pos m) * 1 ≤ 1 * (m * D) = out⁻ h in
     omega arith
 
-ahead : (a s : ℕ) → (from a to (a + s)) ≡ pos s
-ahead a s = ring (pos a ∷ pos s ∷ []) ($ 0 :+ $ 1 :- $ 0) ($ 1) tt
-
 -- a bound times m², where its terms have m already
 scale : (m n D X E K L : ℕ) → E ≡ m * m * X → L ≡ K * m → 4 * X ≤ 4 * n * (m * D) + L * n * n * n → 4 * E ≤ m * m * m * (4 * n * D + K * n * n * n)
 scale m n D X E K L e f h = rw (e) (let g : 4 * X ≤ 4 * n * (m * D) + K * m * n * n * n = rw f at h in omega (arith, mul-le-mul_left (m * m) g))
@@ -51,7 +48,7 @@ unfolding ChordAbove straight
 straight-off N m D a s t p q C h hp hq =
     let d : a + s + t - a ≡ s + t = omega arith in
     let off = (pos t *ℤ p +ℤ pos s *ℤ q) *ℤ pos D -ℤ pos (s + t) *ℤ (N (a + s) *ℤ pos m) in
-    rw (d, ahead a s) (rw same
+    rw (d, ahead_by a (a + s) s refl) (rw same
     (scale m (s + t) D (nat_abs off) (nat_abs (pos (m * m) *ℤ off)) (nat_abs C) (nat_abs (C *ℤ pos m)) (abs_mul (pos (m * m)) off) (abs_mul C (pos m))
     (chord s t D (m * D) p q (N a *ℤ pos m) (N (a + s) *ℤ pos m) (N (a + s + t) *ℤ pos m) (C *ℤ pos m) scaled (near p (N a) m D hp) (near q (N (a + s + t)) m D hq))))
   where

@@ -6,7 +6,8 @@ use Rattle.integers.specs.Fraction.{whole, ◌≈ᶠ◌}
 use Rattle.integers.specs.Values.{other_way, ◌then◌}
 use Rattle.road.specs.File.{Road}
 use Rattle.road.specs.Exact.{Side, point_of, point_at, crossfall_of, crossfall_by, crossfall, from◌to◌}
-use Rattle.laws_of_acceptance.specs.Facts.{Facts, Placed, placed}
+use Rattle.laws_of_acceptance.specs.Facts.{Facts, order}
+use Rattle.laws_of_acceptance.specs.PointOrder.{PointOrder}
 use Rattle.laws_of_pieces.specs.Joints.{none_from, ahead_by}
 use Rattle.laws_of_search.specs.Items.{EndToEnd, value-at}
 
@@ -25,7 +26,7 @@ at_first c c' u k e = rw e (ring (c ∷ c' ∷ pos k ∷ []) (($ 0 :* $ 2 :+ (($
 at_second : (c c' u : ℤ) (k : ℕ) → u ≡ pos k → (c *ℤ pos k +ℤ ((c' -ℤ c) *ℤ u) *ℤ pos 1) *ℤ pos 1 ≡ c' *ℤ pos (1 * k)
 at_second c c' u k e = rw e (ring (c ∷ c' ∷ pos k ∷ []) (($ 0 :* $ 2 :+ (($ 1 :- $ 0) :* $ 2) :* # 1) :* # 1) ($ 1 :* (# 1 :* $ 2)) tt)
 
-module _ {r : Road} (P : Placed r) (d : Side) where
+module _ {r : Road} (P : PointOrder r) (d : Side) where
   pub by_positive : (i s : ℕ) → suc i < length r.crossfalls → 0 < (crossfall_by d r i s).den
   unfolding crossfall_by
   by_positive i s h = let l = P.ascend i h in omega arith
@@ -61,4 +62,4 @@ module _ {r : Road} (P : Placed r) (d : Side) where
 
 -- of an accepted road
 pub crossfall-between : {r : Road} → Facts r → (d : Side) (i s : ℕ) → BetweenPoints r i s → crossfall d r s ≈ᶠ crossfall_by d r i s
-crossfall-between F d i s b = crossfall_by_lem (placed F) d i s b
+crossfall-between F d i s b = crossfall_by_lem (order F) d i s b

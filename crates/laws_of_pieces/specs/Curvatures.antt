@@ -9,7 +9,7 @@ use Rattle.std.proofs.Math.ListN.{get_or-eq_default}
 use Rattle.integers.specs.Ring.{◌:+◌, ◌:-◌, ◌:*◌, #, ring, $}
 use Rattle.integers.specs.Fraction.{Frac, ◌÷◌, whole, ◌+ᶠ◌, ◌-ᶠ◌, ◌×ᶠ◌, ◌≈ᶠ◌}
 use Rattle.integers.specs.Values.{positive-mul, same-value, other_way, ◌then◌}
-use Rattle.road.specs.File.{Road, clothoid_kind}
+use Rattle.road.specs.File.{Road}
 use Rattle.road.specs.declared.Kind.{Kind}
 use Rattle.road.specs.declared.Kind.TheVariants.{Straight, Arc, Clothoid}
 use Rattle.road.specs.Exact.{blank_element, element_of, element_start, element_at, is_straight, is_arc, is_clothoid, arc_curvature, end_curvature, start_curvature, clothoid_curvature, curvature_on, curvature, from◌to◌}
@@ -18,7 +18,7 @@ use Rattle.laws_of_acceptance.specs.OfKind.{is-arc-kind, is-clothoid-kind}
 use Rattle.laws_of_acceptance.specs.PlanOrder.{Stands, PlanOrder}
 use Rattle.laws_of_acceptance.specs.Positive.{Accepted, plan_ordered}
 use Rattle.laws_of_acceptance.specs.Lists.{element-step}
-use Rattle.laws_of_lists.specs.Tests.{true_false}
+use Rattle.std.proofs.lemmas.Bool.{both_ways}
 use Rattle.laws_of_acceptance.specs.Ranges.{element_in}
 use Rattle.laws_of_pieces.specs.Joints.{none_from, ahead_by}
 use Rattle.laws_of_search.specs.Items.{EndToEnd, value-at}
@@ -80,9 +80,19 @@ module _ (r : Road) (i : ℕ) where
   unfolding curvature_on
   on-arc s e = rw e
 
-  on-clothoid : (s : ℕ) → (element_of r i).kind ≡ Clothoid → curvature_on r i s ≡ clothoid_curvature r i s
+  pub on-clothoid : (s : ℕ) → (element_of r i).kind ≡ Clothoid → curvature_on r i s ≡ clothoid_curvature r i s
   unfolding curvature_on
   on-clothoid s e = rw e
+
+  -- a straight's and an arc's own
+  pub on-own : (s : ℕ) → is_clothoid (element_of r i) ≡ false → curvature_on r i s ≡ end_curvature r i
+  unfolding curvature_on end_curvature
+  on-own s o = go (element_of r i).kind refl
+    where
+      go : (k : Kind) → (element_of r i).kind ≡ k → curvature_on r i s ≡ end_curvature r i
+      go Straight e = rw e
+      go Arc e = rw e
+      go Clothoid e = absurd (both_ways (is_clothoid (element_of r i)) o (rw e))
 
   end_zero : is_arc (element_of r i) ≡ false → end_curvature r i ≡ whole (pos 0)
   unfolding end_curvature
@@ -110,7 +120,7 @@ arc-within r i e = go (dec_lt i (length r.plan))
 
     go : Dec (i < length r.plan) → i < length r.plan
     go (yes h) = h
-    go (no h) = absurd (true_false (is_arc (element_of r i)) e (none-past (omega arith)))
+    go (no h) = absurd (both_ways (is_arc (element_of r i)) (none-past (omega arith)) e)
 
 module _ {r : Road} (A : Accepted r) where
   order : PlanOrder r
@@ -170,25 +180,20 @@ module _ {r : Road} (A : Accepted r) where
   pub elements_meet : (i s : ℕ) → suc i < length r.plan → s ≡ element_start r (suc i) → curvature_on r i s ≈ᶠ curvature_on r (suc i) s
   elements_meet i s h e = go (element_of r i).kind refl
     where
-      -- a straight's and an arc's own
-      own : (j : ℕ) (k : Kind) → (element_of r j).kind ≡ k → clothoid_kind k ≡ false → curvature_on r j s ≡ end_curvature r j
-      own j Straight k o = on-straight r j s (rw k) ∙ sym (end_zero r j (rw k))
-      own j Arc k o = on-arc r j s k ∙ sym (end-arc r j (rw k))
-      own j Clothoid k o = absurd (true_false true refl o)
-
-      into : Stands r Clothoid (suc i) → (k : Kind) → (element_of r i).kind ≡ k → clothoid_kind k ≡ false → curvature_on r i s ≈ᶠ curvature_on r (suc i) s
-      into c k q o = same-value (element-positive i s (omega arith)) (own i k q o) then clothoid-after i s h e c.is
+      into : Stands r Clothoid (suc i) → is_clothoid (element_of r i) ≡ false → curvature_on r i s ≈ᶠ curvature_on r (suc i) s
+      into c o = same-value (element-positive i s (omega arith)) (on-own r i s o) then clothoid-after i s h e c.is
 
       -- 0 where two clothoids meet
-      behind : (element_of r i).kind ≡ Clothoid → (k : Kind) → (element_of r (suc i)).kind ≡ k → curvature_on r i s ≈ᶠ curvature_on r (suc i) s
-      behind k Straight q = clothoid-before i s h e k then same-value (end-positive (suc i)) (sym (own (suc i) Straight q refl))
-      behind k Arc q = clothoid-before i s h e k then same-value (end-positive (suc i)) (sym (own (suc i) Arc q refl))
-      behind k Clothoid q = clothoid-before i s h e k then same-value (end-positive (suc i)) (end_zero r (suc i) (rw q) ∙ sym (end_zero r i (rw k))) then clothoid-after i s h e q
+      behind : (element_of r i).kind ≡ Clothoid → (b : Bool) → is_clothoid (element_of r (suc i)) ≡ b → curvature_on r i s ≈ᶠ curvature_on r (suc i) s
+      behind k false o = clothoid-before i s h e k then same-value (end-positive (suc i)) (sym (on-own r (suc i) s o))
+      behind k true o =
+          let q = is-clothoid-kind (element_of r (suc i)).kind o in
+          clothoid-before i s h e k then same-value (end-positive (suc i)) (end_zero r (suc i) (rw q) ∙ sym (end_zero r i (rw k))) then clothoid-after i s h e q
 
       go : (k : Kind) → (element_of r i).kind ≡ k → curvature_on r i s ≈ᶠ curvature_on r (suc i) s
-      go Straight k = into (order.straight i (record { within = omega arith; is = k }) h) Straight k refl
-      go Arc k = into (order.arc i (record { within = omega arith; is = k })) Arc k refl
-      go Clothoid k = behind k (element_of r (suc i)).kind refl
+      go Straight k = into (order.straight i (record { within = omega arith; is = k }) h) (rw k)
+      go Arc k = into (order.arc i (record { within = omega arith; is = k })) (rw k)
+      go Clothoid k = behind k (is_clothoid (element_of r (suc i))) refl
 
   -- the exact curvature at a station is that of any element that has the station
   elements : EndToEnd (element_start r) (length r.plan) (curvature_on r)

@@ -7,7 +7,7 @@ use Rattle.integers.specs.Values.{same-value, other_way}
 use Rattle.road.specs.File.{Road}
 use Rattle.road.specs.Exact.{from◌to◌, vertex_count, vertex, half_length, grade_change, in_curve}
 use Rattle.laws_of_search.specs.Searches.{first_some, first-none, first-clear, first_at_some}
-use Rattle.laws_of_lists.specs.Tests.{true_false, and_left, and_right, and_both}
+use Rattle.std.proofs.lemmas.Bool.{and_from, and_parts, both_ways}
 use Rattle.road.specs.Blade.{one_curve, sagitta, bound}
 use Rattle.laws_of_acceptance.specs.Facts.{Facts}
 use Rattle.laws_of_pieces.specs.Pieces.{OnCurve, on-curve, in_curve_lem, curves_apart}
@@ -20,28 +20,24 @@ pub record Both (r : Road) (a b i : ℕ) : Type 0 where
 
 -- ---- as the definition's test has it: a vertex with h = 0 has no curve
 
-module _ {r : Road} {a b i : ℕ} where
-  both_of : OnCurve r i a → OnCurve r i b → Both r a b i
-  both_of p q =
-      let u = p.low in
-      let v = p.high in
-      let w = q.low in
-      let x = q.high in
-      record {
-        place = p.place;
-        first = abs! (nat a ⊖ nat (vertex r i)) (half_length r i) (omega arith) (omega arith);
-        second = abs! (nat b ⊖ nat (vertex r i)) (half_length r i) (omega arith) (omega arith);
-      }
+module _ {r : Road} {i s : ℕ} where
+  pub near_on : OnCurve r i s → nat_abs (from vertex r i to s) ≤ half_length r i
+  near_on c =
+      let low = c.low in
+      let high = c.high in
+      abs! (nat s ⊖ nat (vertex r i)) (half_length r i) (omega arith) (omega arith)
 
+  pub on_near : 0 < half_length r i → i < vertex_count r → nat_abs (from vertex r i to s) ≤ half_length r i → OnCurve r i s
+  on_near l place near =
+      let u = abs? (nat s ⊖ nat (vertex r i)) (half_length r i) near in
+      record { place = place; long = l; low = omega arith; high = omega arith }
+
+module _ {r : Road} {a b i : ℕ} where
   on-first : 0 < half_length r i → Both r a b i → OnCurve r i a
-  on-first l h =
-      let u = abs? (nat a ⊖ nat (vertex r i)) (half_length r i) h.first in
-      record { place = h.place; long = l; low = omega arith; high = omega arith }
+  on-first l h = on_near l h.place h.first
 
   on-second : 0 < half_length r i → Both r a b i → OnCurve r i b
-  on-second l h =
-      let u = abs? (nat b ⊖ nat (vertex r i)) (half_length r i) h.second in
-      record { place = h.place; long = l; low = omega arith; high = omega arith }
+  on-second l h = on_near l h.place h.second
 
   -- two stations are more than a vertex
   long : a < b → Both r a b i → 0 < half_length r i
@@ -55,14 +51,14 @@ abbrev test : Road → (a b : ℕ) → ℕ → Bool
 test r a b i = in_curve r a i && in_curve r b i
 
 test_yes : {r : Road} {a b i : ℕ} → 0 < half_length r i → Both r a b i → test r a b i ≡ true
-test_yes {r} {a} {b} {i} l h = and_both (in_curve r a i) (in_curve r b i) (in_curve_lem (on-first l h)) (in_curve_lem (on-second l h))
+test_yes {r} {a} {b} {i} l h = and_from (in_curve r a i) (in_curve r b i) (in_curve_lem (on-first l h)) (in_curve_lem (on-second l h))
 
 module _ (r : Road) (a b i : ℕ) (place : i < vertex_count r) (e : test r a b i ≡ true) where
   tested_first : OnCurve r i a
-  tested_first = on-curve r a i place (and_left (in_curve r a i) (in_curve r b i) e)
+  tested_first = on-curve r a i place (and_parts (in_curve r a i) (in_curve r b i) e).0
 
   tested_both : Both r a b i
-  tested_both = both_of tested_first (on-curve r b i place (and_right (in_curve r a i) (in_curve r b i) e))
+  tested_both = record { place = place; first = near_on tested_first; second = near_on (on-curve r b i place (and_parts (in_curve r a i) (in_curve r b i) e).1) }
 
 test_no : (r : Road) (a b i : ℕ) → i < vertex_count r → (0 < half_length r i → Both r a b i → ⊥) → test r a b i ≡ false
 test_no r a b i h free = go (test r a b i) refl
@@ -78,7 +74,7 @@ pub named_iff : (r : Road) (a b i : ℕ) → (one_curve r a b ≡ Some i) ↔ ((
 unfolding one_curve
 named_iff r a b i = (
   λ e. let f = first_some (test r a b) (vertex_count r) i e in
-      ((tested_first r a b i f.place f.bad).long, tested_both r a b i f.place f.bad, λ j l p h. true_false (test r a b j) (test_yes p h) (f.before j l)),
+      ((tested_first r a b i f.place f.bad).long, tested_both r a b i f.place f.bad, λ j l p h. both_ways (test r a b j) (f.before j l) (test_yes p h)),
   λ h. first_at_some (test r a b) (vertex_count r) i (record {
     place = h.1.place;
     bad = test_yes h.0 h.1;
@@ -89,7 +85,7 @@ named_iff r a b i = (
 pub none_iff : (r : Road) (a b : ℕ) → (one_curve r a b ≡ None) ↔ ((i : ℕ) → 0 < half_length r i → Both r a b i → ⊥)
 unfolding one_curve
 none_iff r a b = (
-  λ e i l h. true_false (test r a b i) (test_yes l h) (first-none (test r a b) (vertex_count r) e i h.place),
+  λ e i l h. both_ways (test r a b i) (first-none (test r a b) (vertex_count r) e i h.place) (test_yes l h),
   λ free. first-clear (test r a b) (vertex_count r) (λ i h. test_no r a b i h (free i)),
 )
 

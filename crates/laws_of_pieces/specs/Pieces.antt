@@ -12,9 +12,9 @@ use Rattle.road.specs.File.{Road}
 use Rattle.road.specs.Exact.{tangent_start, tangent_at, total, vertex_count, vertex, half_length, in_curve, curve_at, half_before_of}
 use Rattle.laws_of_search.specs.Searches.{first_some, first-none}
 use Rattle.laws_of_acceptance.specs.Lists.{tangent-step}
-use Rattle.laws_of_lists.specs.Tests.{true_false, and_left, and_right, and_both}
-use Rattle.laws_of_acceptance.specs.Facts.{Facts, start_first}
-use Rattle.laws_of_search.specs.Last.{Rising, rises_to, Begun, begun, begun-upto}
+use Rattle.std.proofs.lemmas.Bool.{and_from, and_parts, both_ways}
+use Rattle.laws_of_acceptance.specs.Facts.{Facts, tangent-begun}
+use Rattle.laws_of_search.specs.Last.{Rising, rises_to, begun-upto}
 
 pub record OnStraight (r : Road) (i s : ℕ) : Type 0 where
   pub place : i < length r.tangents
@@ -35,12 +35,12 @@ on-curve r s i h e =
     let h1 = ltb 0 (half_length r i) in
     let h2 = leb (vertex r i) (s + half_length r i) in
     let h3 = leb s (vertex r i + half_length r i) in
-    let f = and_left (h1 && h2) h3 e in
+    let f = (and_parts (h1 && h2) h3 e).0 in
     record {
       place = h;
-      long = ltb-true 0 (half_length r i) (and_left h1 h2 f);
-      low = leb-true (vertex r i) (s + half_length r i) (and_right h1 h2 f);
-      high = leb-true s (vertex r i + half_length r i) (and_right (h1 && h2) h3 e);
+      long = ltb-true 0 (half_length r i) (and_parts h1 h2 f).0;
+      low = leb-true (vertex r i) (s + half_length r i) (and_parts h1 h2 f).1;
+      high = leb-true s (vertex r i + half_length r i) (and_parts (h1 && h2) h3 e).1;
     }
 
 pub in_curve_lem : {r : Road} {s i : ℕ} → OnCurve r i s → in_curve r s i ≡ true
@@ -49,7 +49,16 @@ in_curve_lem {r} {s} {i} c =
     let h1 = ltb 0 (half_length r i) in
     let h2 = leb (vertex r i) (s + half_length r i) in
     let h3 = leb s (vertex r i + half_length r i) in
-    and_both (h1 && h2) h3 (and_both h1 h2 (lt-ltb 0 (half_length r i) c.long) (le-leb (vertex r i) (s + half_length r i) c.low)) (le-leb s (vertex r i + half_length r i) c.high)
+    and_from (h1 && h2) h3 (and_from h1 h2 (lt-ltb 0 (half_length r i) c.long) (le-leb (vertex r i) (s + half_length r i) c.low)) (le-leb s (vertex r i + half_length r i) c.high)
+
+-- the curve that the definition finds at a station, and where it finds none
+pub curve-found : (r : Road) (s i : ℕ) → curve_at r s ≡ Some i → OnCurve r i s
+unfolding curve_at
+curve-found r s i e = let f = first_some (in_curve r s) (vertex_count r) i e in on-curve r s i f.place f.bad
+
+pub no-curve-found : {r : Road} {s i : ℕ} → curve_at r s ≡ None → OnCurve r i s → ⊥
+unfolding curve_at
+no-curve-found {r} {s} {i} e c = both_ways (in_curve r s i) (first-none (in_curve r s) (vertex_count r) e i c.place) (in_curve_lem c)
 
 -- a value W of the profile, which is S i s on tangent i and C i s in curve i; tangents and curves have one value where they meet
 pub record Along (r : Road) (W : ℕ → Option ℕ → Frac) (S C : ℕ → ℕ → Frac) : Type 0 where
@@ -90,11 +99,9 @@ module _ {r : Road} (F : Facts r) where
 
   -- where there is no curve, the tangent at s has s on its straight part
   own : (s : ℕ) → s ≤ total r → ((i : ℕ) → OnCurve r i s → ⊥) → OnStraight r (tangent_at r s) s
-  unfolding tangent_at
   own s h free =
-      let n = length r.tangents in
       let t = tangent_at r s in
-      let b : Begun (tangent_start r) n s t = begun (tangent_start r) n s F.tangents (omega (arith, start_first r)) in
+      let b = tangent-begun F s in
       record { place = b.below; low = lower t b.from b.below; high = λ l. higher t l (b.next (omega arith)); upto = begun-upto b (omega (arith, F.whole)) }
     where
       lower : (t : ℕ) → tangent_start r t ≤ s → t < length r.tangents → tangent_start r t + half_before_of r t ≤ s
@@ -187,19 +194,15 @@ module _ {r : Road} (F : Facts r) where
 
     -- the value at a station is that of any straight part or curve that has the station
     pub value-curve : (i s : ℕ) → OnCurve r i s → W s (curve_at r s) ≈ᶠ C i s
-    unfolding curve_at
     value-curve i s c = go (curve_at r s) refl
       where
         go : (o : Option ℕ) → curve_at r s ≡ o → W s o ≈ᶠ C i s
-        go (Some k) e = let f = first_some (in_curve r s) (vertex_count r) k e in subst (λ (v : Frac). v ≈ᶠ C i s) (sym (A.curved k s)) (curve-curve k i s (on-curve r s k f.place f.bad) c)
-        go None e = absurd (true_false (in_curve r s i) (in_curve_lem c) (first-none (in_curve r s) (vertex_count r) e i c.place))
+        go (Some k) e = subst (λ (v : Frac). v ≈ᶠ C i s) (sym (A.curved k s)) (curve-curve k i s (curve-found r s k e) c)
+        go None e = absurd (no-curve-found e c)
 
     pub value-straight : (i s : ℕ) → s ≤ total r → OnStraight r i s → W s (curve_at r s) ≈ᶠ S i s
-    unfolding curve_at
     value-straight i s h c = go (curve_at r s) refl
       where
         go : (o : Option ℕ) → curve_at r s ≡ o → W s o ≈ᶠ S i s
-        go (Some k) e = let f = first_some (in_curve r s) (vertex_count r) k e in subst (λ (v : Frac). v ≈ᶠ S i s) (sym (A.curved k s)) (curve-straight k i s (on-curve r s k f.place f.bad) c)
-        go None e =
-            subst (λ (v : Frac). v ≈ᶠ S i s) (sym (A.straight s))
-            (straight-straight (tangent_at r s) i s (own s h (λ k d. true_false (in_curve r s k) (in_curve_lem d) (first-none (in_curve r s) (vertex_count r) e k d.place))) c)
+        go (Some k) e = subst (λ (v : Frac). v ≈ᶠ S i s) (sym (A.curved k s)) (curve-straight k i s (curve-found r s k e) c)
+        go None e = subst (λ (v : Frac). v ≈ᶠ S i s) (sym (A.straight s)) (straight-straight (tangent_at r s) i s (own s h (λ k. no-curve-found e)) c)

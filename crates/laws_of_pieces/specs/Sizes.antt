@@ -11,9 +11,8 @@ use Rattle.integers.specs.Bridge.{abs_sum, abs_difference, abs_product}
 use Rattle.road.specs.Base.{sum_of}
 use Rattle.integers.specs.Fraction.{◌÷◌, whole, ◌+ᶠ◌, ◌-ᶠ◌, ◌×ᶠ◌}
 use Rattle.road.specs.File.{Road}
-use Rattle.road.specs.Exact.{total, tangent_of, point_of, element_of, element_start, element_at, is_straight, is_arc, tangent_start, tangent_at, vertex_count, vertex, half_length, grade_change, past, rise, start_height, tangent_height, in_curve, curve_at, curve_height, height_by, height, grade_by, grade, Side, crossfall_of, crossfall_by, crossfall, point_at, edge_drop, arc_curvature, end_curvature, start_curvature, clothoid_curvature, curvature_on, curvature, from◌to◌}
+use Rattle.road.specs.Exact.{total, tangent_of, point_of, element_of, element_start, element_at, is_straight, is_arc, tangent_start, tangent_at, vertex_count, vertex, half_length, grade_change, past, rise, start_height, tangent_height, curve_at, curve_height, height_by, height, grade_by, grade, Side, crossfall_of, crossfall_by, crossfall, point_at, edge_drop, arc_curvature, end_curvature, start_curvature, clothoid_curvature, curvature_on, curvature, from◌to◌}
 use Rattle.road.specs.Lane.{lane_width}
-use Rattle.laws_of_search.specs.Searches.{first_some}
 use Rattle.laws_of_lists.specs.All.{All}
 use Rattle.laws_of_acceptance.specs.Ranged.{TangentRange}
 use Rattle.laws_of_lists.specs.All as all
@@ -21,10 +20,10 @@ use Rattle.laws_of_acceptance.specs.Positive.{Accepted, facts}
 use Rattle.laws_of_acceptance.specs.Lists.{element-step}
 use Rattle.road.specs.declared.Tangent.{Tangent}
 use Rattle.laws_of_acceptance.specs.Table.{lane_range}
-use Rattle.laws_of_acceptance.specs.Facts.{start_first, points-end}
+use Rattle.laws_of_acceptance.specs.Facts.{points-end, tangent-begun, pair-begun, element-begun}
 use Rattle.laws_of_acceptance.specs.Ranges.{total-small, tangent-inside, tangent_in, crossfall_in_lem}
-use Rattle.laws_of_search.specs.Last.{Begun, begun, begun-upto}
-use Rattle.laws_of_pieces.specs.Pieces.{OnCurve, on-curve}
+use Rattle.laws_of_search.specs.Last.{begun-upto}
+use Rattle.laws_of_pieces.specs.Pieces.{OnCurve, curve-found}
 use Rattle.laws_of_search.specs.Small.{Small, abs_from, small-sum, small-less, small_product}
 
 rise-small : {l : List Tangent} (i : ℕ) → All TangentRange l → nat_abs (rise (take i l)) ≤ 120000 * sum_of (λ (t : Tangent). t.length) (take i l)
@@ -72,19 +71,14 @@ module _ {r : Road} (A : Accepted r) where
       omega (arith, mul-le-mul_left h half)
 
   pub tangent-at : (s : ℕ) → tangent_at r s < length r.tangents
-  unfolding tangent_at
-  tangent-at s = (begun (tangent_start r) (length r.tangents) s (facts A).tangents (omega (arith, start_first r))).below
-
-  pub curve-at : (s i : ℕ) → curve_at r s ≡ Some i → OnCurve r i s
-  unfolding curve_at
-  curve-at s i e = let f = first_some (in_curve r s) (vertex_count r) i e in on-curve r s i f.place f.bad
+  tangent-at s = (tangent-begun (facts A) s).below
 
   pub height-small : (s : ℕ) → s ≤ total r → Small (height r s) 27240000
   unfolding Small height tangent_height start_height
   height-small s l = go (curve_at r s) refl
     where
       go : (o : Option ℕ) → curve_at r s ≡ o → 0 < (height_by r s o).den → nat_abs (height_by r s o).num ≤ 27240000 * (height_by r s o).den
-      go (Some i) e q = curve-size i s (curve-at s i e) l
+      go (Some i) e q = curve-size i s (curve-found r s i e) l
       go None e q = let h = tangent-size (tangent_at r s) s (tangent-at s) l in omega arith
 
   pub grade-small : (s : ℕ) → Small (grade r s) 360000
@@ -93,7 +87,7 @@ module _ {r : Road} (A : Accepted r) where
     where
       go : (o : Option ℕ) → curve_at r s ≡ o → 0 < (grade_by r s o).den → nat_abs (grade_by r s o).num ≤ 360000 * (grade_by r s o).den
       go (Some i) e q =
-          let c = curve-at s i e in
+          let c = curve-found r s i e in
           let p = c.place in
           let h = half_length r i in
           let a = abs_product (tangent_of r i).grade (pos (2 * h)) {l = 2 * h} (tangent_in A i (omega arith)).grade (omega arith) in
@@ -104,13 +98,11 @@ module _ {r : Road} (A : Accepted r) where
 
   -- ---- crossfall and edge_drop
   pub crossfall-small : (d : Side) (s : ℕ) → s ≤ total r → Small (crossfall d r s) 240000
-  unfolding Small crossfall crossfall_by point_at
+  unfolding Small crossfall crossfall_by
   crossfall-small d s l q =
       let F = facts A in
-      let two = F.points in
-      let m : ℕ = length r.crossfalls - 1 in
       let i = point_at r s in
-      let g : Begun (λ (i : ℕ). (point_of r i).station) m s i = begun (λ (i : ℕ). (point_of r i).station) m s (omega arith) (omega (arith, F.first)) in
+      let g = pair-begun F s in
       let p = g.below in
       let w : ℕ = (point_of r (suc i)).station - (point_of r i).station in
       let low = g.from in
@@ -149,10 +141,10 @@ module _ {r : Road} (A : Accepted r) where
   first-end-small (suc i) q = end-small i q
 
   pub curvature-small : (s : ℕ) → s ≤ total r → Small (curvature r s) 3000000000
-  unfolding Small curvature curvature_on clothoid_curvature element_at total element_start sum_of
+  unfolding Small curvature curvature_on clothoid_curvature total
   curvature-small s l =
       let i = element_at r s in
-      let g : Begun (element_start r) (length r.plan) s i = begun (element_start r) (length r.plan) s A.ranges.plan.count.low (omega arith) in
+      let g = element-begun r s A.ranges.plan.count.low in
       kinds i (element-step r i) g.from (begun-upto g l) (is_straight (element_of r i)) (is_arc (element_of r i))
     where
       kinds : (i : ℕ) → element_start r (suc i) ≡ element_start r i + (element_of r i).length → element_start r i ≤ s → s ≤ element_start r (suc i) → (a b : Bool)

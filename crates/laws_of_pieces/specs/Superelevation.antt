@@ -5,7 +5,7 @@ use Rattle.std.proofs.Math.Path.{ap}
 use Prim.Native.Nat.{ℕ, zero, suc, ◌+◌, ◌*◌, ◌-◌, ◌≤◌, ◌<◌, min, max}
 use native.Mathlib.Omega.{arith}
 use Rattle.std.proofs.Math.Decide.{dec_le}
-use Rattle.std.proofs.lemmas.Bool.{eqb-false, not-true, not-false}
+use Rattle.std.proofs.lemmas.Bool.{eqb-false, not-true, not-false, and_from, and_parts, both_ways, or_cases, or_parts}
 use Rattle.std.proofs.Math.IntN.{pos}
 use Rattle.std.specs.Int.Signed.{lt_z}
 use Rattle.integers.specs.Bridge.{int, ◌⊖◌, eq!, abs?}
@@ -22,11 +22,12 @@ use Rattle.laws_of_search.specs.Searches.{first-none, first-clear}
 use Rattle.road.specs.declared.Rule.TheVariants as rule
 use Rattle.laws_of_acceptance.specs.Lists.{element-step}
 use Rattle.road.specs.declared.Crossfall.{Crossfall}
-use Rattle.laws_of_lists.specs.Tests.{true_false, and_left, and_right, and_both, or_left, or_right, or_true, or_yes}
-use Rattle.laws_of_acceptance.specs.Positive.{Accepted, facts}
-use Rattle.laws_of_acceptance.specs.Facts.{Placed, placed, placed-rise, placed_end, elements_rise}
+use Rattle.std.proofs.Math.Bool.{or-true}
+use Rattle.laws_of_acceptance.specs.Positive.{Accepted, points_ordered}
+use Rattle.laws_of_acceptance.specs.Facts.{elements_rise}
+use Rattle.laws_of_acceptance.specs.PointOrder.{PointOrder, points-rise, pair-at}
 use Rattle.laws_of_acceptance.specs.Ranges.{element_in}
-use Rattle.laws_of_search.specs.Last.{rises_to, Begun, begun, begun-before}
+use Rattle.laws_of_search.specs.Last.{rises_to, Begun, begun-before}
 use Rattle.laws_of_pieces.specs.Crossfalls.{by_positive, crossfall_by_lem}
 
 -- the whole numbers of the tests
@@ -51,8 +52,8 @@ abbrev differs : Road → ℕ → Side → Bool
 differs r j d = not (eq_z (crossfall_of d (point_of r j)) (crossfall_of d (point_of r (suc j))))
 
 changes-same : (r : Road) (j : ℕ) → changes_at r j ≡ false → Same r j
-changes-same r j e left = eq_z_true _ _ (not-false _ (or_left (differs r j left) (differs r j right) e))
-changes-same r j e right = eq_z_true _ _ (not-false _ (or_right (differs r j left) (differs r j right) e))
+changes-same r j e left = eq_z_true _ _ (not-false _ (or_parts (differs r j left) (differs r j right) e).0)
+changes-same r j e right = eq_z_true _ _ (not-false _ (or_parts (differs r j left) (differs r j right) e).1)
 
 same-changes : (r : Road) (j : ℕ) → Same r j → changes_at r j ≡ false
 same-changes r j h = rw (eq_z-same _ _ (h left), eq_z-same _ _ (h right))
@@ -66,7 +67,7 @@ changes-on r i = (there, λ h. rw (first-clear (λ j. meets_at r i j && changes_
     there e = go (first_that (λ j. meets_at r i j && changes_at r j) (length r.crossfalls - 1)) refl e
       where
         go : (o : Option ℕ) → first_that (λ j. meets_at r i j && changes_at r j) (length r.crossfalls - 1) ≡ o → elim o [ Some j ↦ true | None ↦ false ] ≡ false → (j : ℕ) → j < length r.crossfalls - 1 → (meets_at r i j && changes_at r j) ≡ false
-        go (Some k) p q = absurd (true_false true refl q)
+        go (Some k) p q = absurd (both_ways true q refl)
         go None p q = first-none (λ j. meets_at r i j && changes_at r j) (length r.crossfalls - 1) p
 
 -- a pair of points with one crossfall
@@ -86,7 +87,7 @@ two-stations c c' x y z k g p e hx hy = cancel g c c' p
 unfoldable pub Constant : Road → ℕ → Type 0
 Constant r i = (d : Side) (s : ℕ) → element_start r i ≤ s → s ≤ element_start r (suc i) → crossfall d r s ≈ᶠ whole (crossfall_of d (point_of r (point_at r (element_start r i))))
 
-module _ {r : Road} (P : Placed r) (i : ℕ) (long : element_start r i < element_start r (suc i)) (within : element_start r (suc i) ≤ total r) where
+module _ {r : Road} (P : PointOrder r) (two : 2 ≤ length r.crossfalls) (i : ℕ) (long : element_start r i < element_start r (suc i)) (within : element_start r (suc i) ≤ total r) where
   abbrev a : ℕ
   a = element_start r i
 
@@ -100,14 +101,13 @@ module _ {r : Road} (P : Placed r) (i : ℕ) (long : element_start r i < element
   place j = (point_of r j).station
 
   point_of_lem : (t : ℕ) → Begun place m t (point_at r t)
-  unfolding point_at
-  point_of_lem t = let two = P.points in begun place m t (omega arith) (omega (arith, P.first))
+  point_of_lem t = pair-at P t (omega arith)
 
   before-next : (t : ℕ) → t < b → t < place (suc (point_at r t))
-  before-next t h = begun-before (point_of_lem t) (omega (arith, placed_end P))
+  before-next t h = begun-before (point_of_lem t) (omega (arith, P.last m (omega arith)))
 
   meet_between : (j : ℕ) → place j < b → a < place (suc j) → meets_at r i j ≡ true
-  meet_between j l u = and_both (ltb (place j) b) (ltb a (place (suc j))) (lt-ltb (place j) b l) (lt-ltb a (place (suc j)) u)
+  meet_between j l u = and_from (ltb (place j) b) (ltb a (place (suc j))) (lt-ltb (place j) b l) (lt-ltb a (place (suc j)) u)
 
   module _ (kept : (j : ℕ) → j < m → (meets_at r i j && changes_at r j) ≡ false) where
     unchanged : (j : ℕ) → j < m → place j < b → a < place (suc j) → Same r j
@@ -115,7 +115,7 @@ module _ {r : Road} (P : Placed r) (i : ℕ) (long : element_start r i < element
       where
         go : (c : Bool) → c ≡ true → (c && changes_at r j) ≡ false → changes_at r j ≡ false
         go true e f = f
-        go false e f = absurd (true_false false e refl)
+        go false e f = absurd (both_ways false refl e)
 
     -- from the point at the start to the point at t
     module _ (d : Side) (t : ℕ) (from-a : a ≤ t) (before-b : t < b) where
@@ -130,8 +130,8 @@ module _ {r : Road} (P : Placed r) (i : ℕ) (long : element_start r i < element
       upto (suc k) h =
           let l = (point_of_lem t).below in
           let n = (point_of_lem t).from in
-          let low = rises_to place m (j0 + k) j1 (placed-rise P) (omega arith) (omega arith) in
-          let high = rises_to place m (suc j0) (suc (j0 + k)) (placed-rise P) (omega arith) (omega arith) in
+          let low = rises_to place m (j0 + k) j1 (points-rise P) (omega arith) (omega arith) in
+          let high = rises_to place m (suc j0) (suc (j0 + k)) (points-rise P) (omega arith) (omega arith) in
           let e : j0 + suc k ≡ suc (j0 + k) = omega arith in
           ap (λ (k : ℕ). crossfall_of d (point_of r k)) e
           ∙ sym (unchanged (j0 + k) (omega arith) (omega arith) (omega (arith, before-next a long)) d)
@@ -145,7 +145,7 @@ module _ {r : Road} (P : Placed r) (i : ℕ) (long : element_start r i < element
           go (no y) =
               let l = (point_of_lem a).below in
               let n = (point_of_lem a).from in
-              absurd (omega (arith, before-next t before-b, rises_to place m (suc j1) j0 (placed-rise P) (omega arith) (omega arith)))
+              absurd (omega (arith, before-next t before-b, rises_to place m (suc j1) j0 (points-rise P) (omega arith) (omega arith)))
 
       flat-at : (s : ℕ) → t ≤ s → s ≤ suc t → crossfall d r s ≈ᶠ whole (crossfall_of d (point_of r j0))
       unfolding crossfall_by
@@ -187,7 +187,7 @@ module _ {r : Road} (P : Placed r) (i : ℕ) (long : element_start r i < element
       go : (e : Bool) → meets_at r i j ≡ e → (e && changes_at r j) ≡ false
       go false q = refl
       go true q =
-          same-changes r j (pair_same c j h (ltb-true (place j) b (and_left (ltb (place j) b) (ltb a (place (suc j))) q)) (ltb-true a (place (suc j)) (and_right (ltb (place j) b) (ltb a (place (suc j))) q)))
+          same-changes r j (pair_same c j h (ltb-true (place j) b (and_parts (ltb (place j) b) (ltb a (place (suc j))) q).0) (ltb-true a (place (suc j)) (and_parts (ltb (place j) b) (ltb a (place (suc j))) q).1))
 
   -- so the test of "On an arc a crossfall changes", which looks at pairs of points, speaks of every station
   pub constant_iff : (changes_on r i ≡ false) ↔ Constant r i
@@ -215,7 +215,7 @@ negative a = (λ e. record { lt = subst T (sym e) tt }, λ h. go (lt_z a (pos 0)
     go false t = absurd t
 
 superelevated_iff : (radius : ℤ) (p : Crossfall) → (superelevated radius p ≡ true) ↔ Superelevated radius p
-superelevated_iff radius p = (there, λ h. and_both x y (eq_z-same _ _ h.opposite) ((negative _).1 h.inward))
+superelevated_iff radius p = (there, λ h. and_from x y (eq_z-same _ _ h.opposite) ((negative _).1 h.inward))
   where
     x : Bool
     x = eq_z p.left (neg_ℤ p.right)
@@ -224,7 +224,7 @@ superelevated_iff radius p = (there, λ h. and_both x y (eq_z-same _ _ h.opposit
     y = lt_z (crossfall_of (inner radius) p) (pos 0)
 
     there : superelevated radius p ≡ true → Superelevated radius p
-    there e = record { opposite = eq_z_true _ _ (and_left x y e); inward = (negative _).0 (and_right x y e) }
+    there e = record { opposite = eq_z_true _ _ (and_parts x y e).0; inward = (negative _).0 (and_parts x y e).1 }
 
 crowned_iff : (l : Limits) (radius : ℤ) (p : Crossfall) → (crowned l radius p ≡ true) ↔ Crowned l radius p
 crowned_iff l radius p = (there, back)
@@ -243,30 +243,29 @@ crowned_iff l radius p = (there, back)
 
     there : crowned l radius p ≡ true → Crowned l radius p
     there e =
-        let f = and_left (x && y && z) w e in
-        let g = and_left (x && y) z f in
+        let f = (and_parts (x && y && z) w e).0 in
+        let g = (and_parts (x && y) z f).0 in
         record {
-          left_side = eq_z_true _ _ (and_left x y g);
-          right_side = eq_z_true _ _ (and_right x y g);
-          allowed = eqb-false l.radius_both no_rule (not-true (eqb l.radius_both no_rule) (and_right (x && y) z f));
-          wide = leb-true l.radius_both (nat_abs radius) (and_right (x && y && z) w e);
+          left_side = eq_z_true _ _ (and_parts x y g).0;
+          right_side = eq_z_true _ _ (and_parts x y g).1;
+          allowed = eqb-false l.radius_both no_rule (not-true (eqb l.radius_both no_rule) (and_parts (x && y) z f).1);
+          wide = leb-true l.radius_both (nat_abs radius) (and_parts (x && y && z) w e).1;
         }
 
     back : Crowned l radius p → crowned l radius p ≡ true
     back h =
-        and_both (x && y && z) w (and_both (x && y) z (and_both x y (eq_z-same _ _ h.left_side) (eq_z-same _ _ h.right_side)) (ap not (ne_eqb l.radius_both no_rule h.allowed)))
-        (le-leb l.radius_both (nat_abs radius) h.wide)
+        and_from (x && y && z) w (and_from (x && y) z (and_from x y (eq_z-same _ _ h.left_side) (eq_z-same _ _ h.right_side)) (ap not (ne_eqb l.radius_both no_rule h.allowed))) (le-leb l.radius_both (nat_abs radius) h.wide)
 
 -- the point at an element's start
 abbrev pub start_point : Road → ℕ → Crossfall
 start_point r i = point_of r (point_at r (element_start r i))
 
 -- a road whose points ascend from 0 to T keeps refusal 19 at an element if and only if that is no arc, or has a constant crossfall of one of the two forms
-pub superelevation_iff : {r : Road} → Placed r → (l : Limits) (i : ℕ) → i < length r.plan → 0 < (element_of r i).length
+pub superelevation_iff : {r : Road} → PointOrder r → 2 ≤ length r.crossfalls → (l : Limits) (i : ℕ) → i < length r.plan → 0 < (element_of r i).length
     → (wrong_superelevation l r i ≡ false)
     ↔ (is_arc (element_of r i) ≡ true → Constant r i × (Superelevated (element_of r i).radius (start_point r i) ⊎ Crowned l (element_of r i).radius (start_point r i)))
 unfolding wrong_superelevation allowed total
-superelevation_iff {r} P l i h long = (λ e q. there (is_arc (element_of r i)) q e, λ k. back (is_arc (element_of r i)) refl k)
+superelevation_iff {r} P two l i h long = (λ e q. there (is_arc (element_of r i)) q e, λ k. back (is_arc (element_of r i)) refl k)
   where
     R : ℤ
     R = (element_of r i).radius
@@ -275,7 +274,7 @@ superelevation_iff {r} P l i h long = (λ e q. there (is_arc (element_of r i)) q
     p = start_point r i
 
     steady : (changes_on r i ≡ false) ↔ Constant r i
-    steady = constant_iff P i (omega (arith, element-step r i)) (rises_to (element_start r) (length r.plan) (suc i) (length r.plan) (elements_rise r) h (omega arith))
+    steady = constant_iff P two i (omega (arith, element-step r i)) (rises_to (element_start r) (length r.plan) (suc i) (length r.plan) (elements_rise r) h (omega arith))
 
     form : (superelevated R p ≡ true) ⊎ (crowned l R p ≡ true) → Superelevated R p ⊎ Crowned l R p
     form (inl e) = inl ((superelevated_iff R p).0 e)
@@ -283,12 +282,12 @@ superelevation_iff {r} P l i h long = (λ e q. there (is_arc (element_of r i)) q
 
     formed : Superelevated R p ⊎ Crowned l R p → (superelevated R p || crowned l R p) ≡ true
     formed (inl e) = rw ((superelevated_iff R p).1 e)
-    formed (inr e) = rw ((crowned_iff l R p).1 e) (or_true (superelevated R p))
+    formed (inr e) = rw ((crowned_iff l R p).1 e) (or-true (superelevated R p))
 
     there : (c : Bool) → c ≡ true → (c && (changes_on r i || not (superelevated R p || crowned l R p))) ≡ false → Constant r i × (Superelevated R p ⊎ Crowned l R p)
     there true q e =
-        (steady.0 (or_left (changes_on r i) (not (superelevated R p || crowned l R p)) e), form (or_yes (superelevated R p) (crowned l R p) (not-false (superelevated R p || crowned l R p) (or_right (changes_on r i) (not (superelevated R p || crowned l R p)) e))))
-    there false q e = absurd (true_false false q refl)
+        (steady.0 (or_parts (changes_on r i) (not (superelevated R p || crowned l R p)) e).0, form (or_cases (superelevated R p) (crowned l R p) (not-false (superelevated R p || crowned l R p) (or_parts (changes_on r i) (not (superelevated R p || crowned l R p)) e).1)))
+    there false q e = absurd (both_ways false refl q)
 
     back : (c : Bool) → is_arc (element_of r i) ≡ c → (is_arc (element_of r i) ≡ true → Constant r i × (Superelevated R p ⊎ Crowned l R p)) → (c && (changes_on r i || not (superelevated R p || crowned l R p))) ≡ false
     back false q k = refl
@@ -297,4 +296,4 @@ superelevation_iff {r} P l i h long = (λ e q. there (is_arc (element_of r i)) q
 -- so on each arc of an accepted road the crossfall is constant, and of one of the two forms
 pub accepted-arc : {r : Road} → Accepted r → (i : ℕ) → i < length r.plan → is_arc (element_of r i) ≡ true
     → Constant r i × (Superelevated (element_of r i).radius (start_point r i) ⊎ Crowned (limits r) (element_of r i).radius (start_point r i))
-accepted-arc {r} A i h e = (superelevation_iff (placed (facts A)) (limits r) i h (element_in A i h).length.low).0 (A.kept rule.Superelevation i h) e
+accepted-arc {r} A i h e = (superelevation_iff (points_ordered A) A.ranges.points.count.low (limits r) i h (element_in A i h).length.low).0 (A.kept rule.Superelevation i h) e

@@ -1,9 +1,9 @@
 -- The last place that passes a test, and the last that begins at or before a station.
-use Rattle.std.specs.Prelude.{◌≡◌, refl, ℕ, zero, suc, ◌+◌, ◌-◌, ◌<◌, ◌≤◌, Bool, true, false, leb}
-use Rattle.std.proofs.Common.{sym, ap, ◌∙◌, subst, arith, leb-true, leb-false, le-leb}
+use Rattle.std.specs.Prelude.{◌≡◌, refl, ◌⊎◌, ℕ, zero, suc, ◌+◌, ◌-◌, ◌<◌, ◌≤◌, Bool, true, false, leb}
+use Rattle.std.proofs.Common.{sym, ap, ◌∙◌, subst, ⊎_elim, inl, inr, arith, leb-true, leb-false, le-leb}
 use Rattle.std.proofs.Math.Decide.{ℕ_discrete, dec_lt}
 use Rattle.road.specs.Base.{last_that}
-use Rattle.laws_of_lists.specs.Tests.{true_false}
+use Rattle.std.proofs.lemmas.Bool.{both_ways}
 
 last_yes : (test : ℕ → Bool) (n : ℕ) → test n ≡ true → last_that test (suc n) ≡ n
 unfolding last_that
@@ -32,7 +32,7 @@ last-at test (suc n) h t = go (test n) refl (λ p. last-at test n p t)
     go false q ih = down (ℕ_discrete n 0)
       where
         down : Dec (n ≡ 0) → LastAt test (suc n) (last_that test (suc n))
-        down (yes e) = absurd (true_false (test 0) t (ap test (sym e) ∙ q))
+        down (yes e) = absurd (both_ways (test 0) (ap test (sym e) ∙ q) t)
         down (no ne) =
             let l = ih (omega (arith, ne)) in
             let low = l.below in
@@ -65,19 +65,18 @@ begun f n s h l =
     record { below = k.below; from = leb-true _ s k.holds; next = λ u. leb-false _ s (k.after _ (omega arith) u) }
 
 -- f n is where the last of them ends
-pub begun-before : {f : ℕ → ℕ} {n s i : ℕ} → Begun f n s i → s < f n → s < f (suc i)
-begun-before {f} {n} {s} {i} b h = go (dec_lt (suc i) n)
+begun_last : {f : ℕ → ℕ} {n s i : ℕ} → Begun f n s i → (s < f (suc i)) ⊎ (f n ≡ f (suc i))
+begun_last {f} {n} {s} {i} b = go (dec_lt (suc i) n)
   where
-    go : Dec (suc i < n) → s < f (suc i)
-    go (yes y) = b.next y
-    go (no y) = let p = b.below in let e : suc i ≡ n = omega arith in omega (arith, ap f e)
+    go : Dec (suc i < n) → (s < f (suc i)) ⊎ (f n ≡ f (suc i))
+    go (yes y) = inl (b.next y)
+    go (no y) = let p = b.below in inr (ap f (omega arith))
+
+pub begun-before : {f : ℕ → ℕ} {n s i : ℕ} → Begun f n s i → s < f n → s < f (suc i)
+begun-before b h = ⊎_elim (λ l. l) (λ e. omega arith) (begun_last b)
 
 pub begun-upto : {f : ℕ → ℕ} {n s i : ℕ} → Begun f n s i → s ≤ f n → s ≤ f (suc i)
-begun-upto {f} {n} {s} {i} b h = go (dec_lt (suc i) n)
-  where
-    go : Dec (suc i < n) → s ≤ f (suc i)
-    go (yes y) = let l = b.next y in omega arith
-    go (no y) = let p = b.below in let e : suc i ≡ n = omega arith in omega (arith, ap f e)
+begun-upto b h = ⊎_elim (λ l. omega arith) (λ e. omega arith) (begun_last b)
 
 pub begun-one : (f : ℕ → ℕ) (n s i j : ℕ) → Rising f n → Begun f n s i → Begun f n s j → i ≡ j
 begun-one f n s i j m a b = go (dec_lt i j) (dec_lt j i)

@@ -4,9 +4,10 @@ use Rattle.std.proofs.Common.{sym, ap, ◌∙◌, subst, arith, eqb→eq}
 use Prim.Native.Nat.{ℕ, zero, suc, ◌+◌, ◌<◌, ◌≤◌, min, compare, Ordering}
 use Rattle.std.proofs.Math.Decide.{ℕ_discrete, dec_lt}
 use Rattle.std.proofs.Math.Dec.{compare_is_eq}
+use Rattle.std.proofs.lemmas.Option.{none-some}
 use Rattle.road.specs.Base.{first_from, first_that}
 use Rattle.road.specs.Listed.{insert, ascending, counted, or_less, least_from}
-use Rattle.laws_of_lists.specs.Tests.{true_false}
+use Rattle.std.proofs.lemmas.Bool.{both_ways}
 
 -- ---- the least number that passes a test
 
@@ -17,9 +18,6 @@ first_from_yes test n k p = rw (p, first_from)
 first_from_no : (test : ℕ → Bool) (n k : ℕ) → test k ≡ false → first_from test (suc n) k ≡ first_from test n (suc k)
 unfolding first_from
 first_from_no test n k p = rw (p, first_from)
-
-some_not_none : {k : ℕ} {o : Option ℕ} → o ≡ Some k → o ≡ None → ⊥
-some_not_none p q = let z : ◌≡◌ {A = ℕ} 0 1 = cc in omega arith
 
 Clear : (ℕ → Bool) → ℕ → ℕ → Type 0
 Clear test k n = (i : ℕ) → k ≤ i → i < k + n → test i ≡ false
@@ -38,7 +36,7 @@ first_from-none test zero k e = λ i l u. absurd (omega arith)
 first_from-none test (suc n) k e = go (test k) refl (λ f. first_from-none test n (suc k) f)
   where
     go : (b : Bool) → test k ≡ b → (first_from test n (suc k) ≡ None → Clear test (suc k) n) → Clear test k (suc n)
-    go true p ih = absurd (some_not_none (first_from_yes test n k p) e)
+    go true p ih = absurd (none-some k (sym e ∙ first_from_yes test n k p))
     go false p ih = clear-more test k n p (ih (sym (first_from_no test n k p) ∙ e))
 
 first_from-clear : (test : ℕ → Bool) (n k : ℕ) → Clear test k n → first_from test n k ≡ None
@@ -62,7 +60,7 @@ record From (test : ℕ → Bool) (n k i : ℕ) : Type 0 where
 
 first_from_some : (test : ℕ → Bool) (n k i : ℕ) → first_from test n k ≡ Some i → From test n k i
 unfolding first_from
-first_from_some test zero k i e = absurd (some_not_none e refl)
+first_from_some test zero k i e = absurd (none-some i e)
 first_from_some test (suc n) k i e = go (test k) refl (λ f. first_from_some test n (suc k) i f)
   where
     go : (b : Bool) → test k ≡ b → (first_from test n (suc k) ≡ Some i → From test n (suc k) i) → From test (suc n) k i
@@ -100,15 +98,15 @@ pub first_at_some : (test : ℕ → Bool) (n i : ℕ) → FirstAt test n i → f
 first_at_some test n i f = go (first_that test n) refl
   where
     go : (o : Option ℕ) → first_that test n ≡ o → o ≡ Some i
-    go None e = absurd (true_false (test i) f.bad (first-none test n e i f.place))
+    go None e = absurd (both_ways (test i) (first-none test n e i f.place) f.bad)
     go (Some k) e = ap {B = Option ℕ} Some (same (dec_lt i k) (dec_lt k i))
       where
         g : FirstAt test n k
         g = first_some test n k e
 
         same : Dec (i < k) → Dec (k < i) → k ≡ i
-        same (yes l) m = absurd (true_false (test i) f.bad (g.before i l))
-        same (no l) (yes m) = absurd (true_false (test k) g.bad (f.before k m))
+        same (yes l) m = absurd (both_ways (test i) (g.before i l) f.bad)
+        same (no l) (yes m) = absurd (both_ways (test k) (f.before k m) g.bad)
         same (no l) (no m) = omega arith
 
 -- ---- the least listed station is that of the ascending list

@@ -66,21 +66,22 @@ module _ (r : Road) where
   in_points m = Memᴰ.append_right ends (Memᴰ.append_right (multiples r.head.step (total r)) (Memᴰ.append_right (element_ends r) (Memᴰ.append_right curves m)))
 
   -- both ends of a curve, which are the vertex where h is 0
-  pub starts-listed : (i x : ℕ) → i < vertex_count r → x + half_length r i ≡ vertex r i → Memᴰ x (stations r)
+  both-ends : (i : ℕ) → Memᴰ (vertex r i - half_length r i) (curve_stations r i) × Memᴰ (vertex r i + half_length r i) (curve_stations r i)
   unfolding curve_stations
-  starts-listed i x h e = in_curves i h (go (eqb (half_length r i) 0) refl)
+  both-ends i = go (eqb (half_length r i) 0) refl
     where
-      go : (b : Bool) → eqb (half_length r i) 0 ≡ b → Memᴰ x (if b then vertex r i ∷ [] else (vertex r i - half_length r i) ∷ (vertex r i + half_length r i) ∷ [])
-      go true q = let z = eqb-true (half_length r i) 0 q in let f : x ≡ vertex r i = omega arith in Memᴰ.head f
-      go false q = let f : x ≡ vertex r i - half_length r i = omega arith in Memᴰ.head f
+      ends_if : Bool → List ℕ
+      ends_if b = if b then vertex r i ∷ [] else (vertex r i - half_length r i) ∷ (vertex r i + half_length r i) ∷ []
+
+      go : (b : Bool) → eqb (half_length r i) 0 ≡ b → Memᴰ (vertex r i - half_length r i) (ends_if b) × Memᴰ (vertex r i + half_length r i) (ends_if b)
+      go true q = let z = eqb-true (half_length r i) 0 q in (Memᴰ.head (omega arith), Memᴰ.head (omega arith))
+      go false q = (Memᴰ.head refl, Memᴰ.tail (Memᴰ.head refl))
+
+  pub starts-listed : (i x : ℕ) → i < vertex_count r → x + half_length r i ≡ vertex r i → Memᴰ x (stations r)
+  starts-listed i x h e = in_curves i h (Memᴰ.cast (omega arith) (both-ends i).0)
 
   pub ends-listed : (i x : ℕ) → i < vertex_count r → x ≡ vertex r i + half_length r i → Memᴰ x (stations r)
-  unfolding curve_stations
-  ends-listed i x h e = in_curves i h (go (eqb (half_length r i) 0) refl)
-    where
-      go : (b : Bool) → eqb (half_length r i) 0 ≡ b → Memᴰ x (if b then vertex r i ∷ [] else (vertex r i - half_length r i) ∷ (vertex r i + half_length r i) ∷ [])
-      go true q = let z = eqb-true (half_length r i) 0 q in let f : x ≡ vertex r i = omega arith in Memᴰ.head f
-      go false q = Memᴰ.tail (Memᴰ.head e)
+  ends-listed i x h e = in_curves i h (Memᴰ.cast e (both-ends i).1)
 
   pub point-listed : (i : ℕ) → i < length r.crossfalls → Memᴰ (point_of r i).station (stations r)
   point-listed i h = in_points (Memᴰ.map (λ (p : Crossfall). p.station) (item_has blank_crossfall r.crossfalls i h))

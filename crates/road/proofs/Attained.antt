@@ -7,7 +7,7 @@ use Rattle.file_numbers.specs.Reading.{got}
 use Rattle.file_numbers.specs.Number.{shortest, written}
 use Rattle.integers.specs.Fraction.{Frac, whole, ◌-ᶠ◌, size, ◌≤ᶠ◌, ◌≈ᶠ◌}
 use Rattle.road.specs.Base.{joined}
-use Rattle.laws_of_lists.specs.Tests.{true_false, and_both, or_left, or_right}
+use Rattle.std.proofs.lemmas.Bool.{and_from, both_ways, or_parts}
 use Rattle.road.specs.Text.{printed_line}
 use Rattle.road.specs.File.{Road}
 use Rattle.road.specs.Exact.{Side, left, right, edge}
@@ -80,8 +80,8 @@ one_between a b (x ∷ l) = (ltb a x && ltb x b) || one_between a b l
 none_between : (a b : ℕ) (l : List ℕ) → one_between a b l ≡ false → (x : ℕ) → Memᴰ x l → a < x → x < b → ⊥
 none_between a b [] t x m low high = elim m [ ]
 none_between a b (y ∷ l) t x (Memᴰ.head e) low high =
-    true_false (ltb a y && ltb y b) (and_both (ltb a y) (ltb y b) (lt-ltb a y (omega arith)) (lt-ltb y b (omega arith))) (or_left (ltb a y && ltb y b) (one_between a b l) t)
-none_between a b (y ∷ l) t x (Memᴰ.tail m) low high = none_between a b l (or_right (ltb a y && ltb y b) (one_between a b l) t) x m low high
+    both_ways (ltb a y && ltb y b) (or_parts (ltb a y && ltb y b) (one_between a b l) t).0 (and_from (ltb a y) (ltb y b) (lt-ltb a y (omega arith)) (lt-ltb y b (omega arith)))
+none_between a b (y ∷ l) t x (Memᴰ.tail m) low high = none_between a b l (or_parts (ltb a y && ltb y b) (one_between a b l) t).1 x m low high
 
 neighbours : (r : Road) (a b : ℕ) → ltb a b ≡ true → one_between a b (listed r) ≡ false → Neighbouring r a b
 neighbours r a b s t = record { before = ltb-true a b s; free = none_between a b (listed r) t }

@@ -11,7 +11,8 @@ use Rattle.road.specs.declared.Terrain.TheVariants.{Flat, Hilly, Mountain}
 use Rattle.road.specs.declared.Limits.{Limits}
 use Rattle.road.specs.Rules.{Verdict, passes, breaks, order, judged, accepted}
 use Rattle.road.specs.declared.Rule.{Rule}
-use Rattle.laws_of_lists.specs.Each.{all, each_below}
+use Rattle.std.specs.List.{list_all}
+use Rattle.laws_of_lists.specs.Each.{each_below}
 use Rattle.laws_of_lists.specs.Tests.{and_T}
 use Rattle.laws_of_acceptance.specs.Judging.{Keeps, rule_at, passes_kept, kept-passes, kept_by_name}
 use Rattle.laws_of_acceptance.specs.Refusals.{accepted_iff}
@@ -94,7 +95,7 @@ pub own_tried : (r : Road) → OwnTried r
 unfolding speed
 own_tried r =
     let row : List ℕ = get_or speeds (class_row r.head.class) [] in
-    let whole = and_T (eqb (length row) 3) (all tried row) (each_below (λ l. eqb (length l) 3 && all tried l) [] speeds tt (class_row r.head.class) (row_within r.head.class)) in
+    let whole = and_T (eqb (length row) 3) (list_all tried row) (each_below (λ l. eqb (length l) 3 && list_all tried l) [] speeds tt (class_row r.head.class) (row_within r.head.class)) in
     let three : length row ≡ 3 = eqb→eq (length row) 3 whole.0 in
     let v : ℕ = get_or row (terrain_column r.head.terrain) 0 in
     let t = and_T (ltb ((v - 40) / 10) 7) (eqb (40 + 10 * ((v - 40) / 10)) v) (each_below tried 0 row whole.1 (terrain_column r.head.terrain) (omega (arith, column_within r.head.terrain))) in
