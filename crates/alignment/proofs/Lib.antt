@@ -1,2 +1,3 @@
-pub mod Filling
-pub mod WholeFile
+pub mod Onward
+pub mod Lists
+pub mod Parts

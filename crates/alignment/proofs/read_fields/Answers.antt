@@ -1,14 +1,110 @@
-use Rattle.fields.specs.Onward.{signed-told}
-use Rattle.item_fields.specs.Items.{head-told}
-use Rattle.alignment.proofs.WholeFile.{held-read}
-use mir.Val.{to_z, of_z}
-use mir.Syntax.{w32}
-use mathlib.Core.Path.{◌≡◌}
-use borrow.Author.Rules.{rules}
+-- Part after part: what was read leaves the rest, and a refusal stays.
+use Rattle.std.proofs.Common.{rules, refl, zero-add, length-append, arith, ◌≡◌, ◌-◌, ◌+◌, sym, to_z, of_z, w32}
+use Rattle.std.proofs.Math.Nat.{sub-zero}
+use Rattle.road.specs.declared.Element.{Element}
+use Rattle.road.specs.declared.Tangent.{Tangent}
+use Rattle.road.specs.declared.Crossfall.{Crossfall}
+use Rattle.laws_of_acceptance.specs.Ranged.{field-within}
+use Rattle.road.specs.File.{element, tangent, point, fields}
+use Rattle.fields.specs.Onward.{stopped, gives}
+use Rattle.alignment.proofs.Onward.{ends, onward, refused-there}
+use Rattle.alignment.proofs.Lists.{list_ends, item, item_refused}
+use Rattle.alignment.proofs.Parts.{after_plan, plan_left, profile_left, with_tangents, crossfalls_left, with_crossfalls}
 use Rattle.alignment.proofs.read_fields.Goals as goal
+
+pub returns-in_err-read_head : goal.returns-in_err-read_head
+unfolding fields
+returns-in_err-read_head c = grind (arith, stopped)
+
+pub returns-in_err-elements : goal.returns-in_err-elements
+returns-in_err-elements c = let p = refused-there _ (plan_left c.in_ok-read_head.ensures) c.in_err-elements.ensures in grind arith
+
+pub loop-i-init : goal.loop-i-init
+loop-i-init c =
+    let p = onward _ (plan_left c.in_ok-read_head.ensures) c.in_ok-elements.ensures in
+    rw (c.new-a.ensures, sub-zero c.in_ok-elements.elements) (record { left = p; long = refl; no_tangent = refl; no_crossfall = refl })
+
+pub returns-in_err-read_element : goal.returns-in_err-read_element
+returns-in_err-read_element c =
+    let l = c.loop-i in
+    let p = item_refused (λ _. element) (after_plan l.a.head) l.a.plan (c.in_ok-elements.elements - (l.i + 1)) (omega arith) l.invariant.left c.in_err-read_element.ensures in
+    grind arith
+
+pub push_element-requires : goal.push_element-requires
+push_element-requires c = let few = field-within 1 200 _ _ (sym c.in_ok-elements.ensures.read) in omega arith
+
+pub loop-i-preserved : goal.loop-i-preserved
+loop-i-preserved c =
+    let l = c.loop-i in
+    let p = item (λ _. element) (after_plan l.a.head) l.a.plan (c.in_ok-elements.elements - (l.i + 1)) (omega arith) l.invariant.left c.in_ok-read_element.ensures in
+    rw c.push_element.ensures (record { left = p; long = omega (arith, length-append {A = Element}); no_tangent = l.invariant.no_tangent; no_crossfall = l.invariant.no_crossfall })
+
+pub returns-in_err-read_signed : goal.returns-in_err-read_signed
+returns-in_err-read_signed c =
+    let l = c.loop-i in
+    let p = refused-there _ (profile_left l.a.head l.a.plan (list_ends (λ _. element) (after_plan l.a.head) l.a.plan (omega arith) l.invariant.left)) c.in_err-read_signed.ensures in
+    grind arith
+
+pub returns-in_err-tangents : goal.returns-in_err-tangents
+returns-in_err-tangents c =
+    let l = c.loop-i in
+    let q = onward _ (profile_left l.a.head l.a.plan (list_ends (λ _. element) (after_plan l.a.head) l.a.plan (omega arith) l.invariant.left)) c.in_ok-read_signed.ensures in
+    let p = refused-there _ q c.in_err-tangents.ensures in
+    grind arith
+
+pub loop-follow-init : goal.loop-follow-init
+loop-follow-init c =
+    let l = c.loop-i in
+    let q = onward _ (profile_left l.a.head l.a.plan (list_ends (λ _. element) (after_plan l.a.head) l.a.plan (omega arith) l.invariant.left)) c.in_ok-read_signed.ensures in
+    let p = onward _ q c.in_ok-tangents.ensures in
+    let same : to_z w32 (of_z w32 c.in_ok-read_signed.field-0) ≡ c.in_ok-read_signed.field-0 = search rules in
+    rw (c.set_start.ensures, l.invariant.no_tangent, same) (record { left = p; long = zero-add c.in_ok-tangents.tangents; no_crossfall = l.invariant.no_crossfall })
+
+pub returns-in_err-read_tangent : goal.returns-in_err-read_tangent
+returns-in_err-read_tangent c =
+    let l = c.loop-follow in
+    let p = item_refused tangent (with_tangents l.a.head l.a.plan l.a.start) l.a.tangents (l.follow - 1) (omega arith) l.invariant.left c.in_err-read_tangent.ensures in
+    grind arith
+
+pub push_tangent-requires : goal.push_tangent-requires
+push_tangent-requires c = let few = field-within 1 100 _ _ (sym c.in_ok-tangents.ensures.read) in omega arith
+
+pub loop-follow-preserved : goal.loop-follow-preserved
+loop-follow-preserved c =
+    let l = c.loop-follow in
+    let p = item tangent (with_tangents l.a.head l.a.plan l.a.start) l.a.tangents (l.follow - 1) (omega arith) l.invariant.left c.in_ok-read_tangent.ensures in
+    rw c.push_tangent.ensures (record { left = p; long = omega (arith, length-append {A = Tangent}); no_crossfall = l.invariant.no_crossfall })
+
+pub returns-in_err-crossfalls : goal.returns-in_err-crossfalls
+returns-in_err-crossfalls c =
+    let l = c.loop-follow in
+    let q = crossfalls_left l.a.head l.a.plan l.a.start l.a.tangents (list_ends tangent (with_tangents l.a.head l.a.plan l.a.start) l.a.tangents (omega arith) l.invariant.left) in
+    let p = refused-there _ q c.in_err-crossfalls.ensures in
+    grind arith
+
+pub loop-j-init : goal.loop-j-init
+loop-j-init c =
+    let l = c.loop-follow in
+    let q = crossfalls_left l.a.head l.a.plan l.a.start l.a.tangents (list_ends tangent (with_tangents l.a.head l.a.plan l.a.start) l.a.tangents (omega arith) l.invariant.left) in
+    let p = onward _ q c.in_ok-crossfalls.ensures in
+    rw (l.invariant.no_crossfall, sub-zero c.in_ok-crossfalls.crossfalls) (record { left = p; long = refl })
+
+pub returns-in_err-read_crossfall : goal.returns-in_err-read_crossfall
+returns-in_err-read_crossfall c =
+    let l = c.loop-j in
+    let p = item_refused (λ _. point) (with_crossfalls l.a.head l.a.plan l.a.start l.a.tangents) l.a.crossfalls (c.in_ok-crossfalls.crossfalls - (l.j + 1)) (omega arith) l.invariant.left c.in_err-read_crossfall.ensures in
+    grind arith
+
+pub push_crossfall-requires : goal.push_crossfall-requires
+push_crossfall-requires c = let few = field-within 2 200 _ _ (sym c.in_ok-crossfalls.ensures.read) in omega arith
+
+pub loop-j-preserved : goal.loop-j-preserved
+loop-j-preserved c =
+    let l = c.loop-j in
+    let p = item (λ _. point) (with_crossfalls l.a.head l.a.plan l.a.start l.a.tangents) l.a.crossfalls (c.in_ok-crossfalls.crossfalls - (l.j + 1)) (omega arith) l.invariant.left c.in_ok-read_crossfall.ensures in
+    rw c.push_crossfall.ensures (record { left = p; long = omega (arith, length-append {A = Crossfall}) })
 
 pub returns : goal.returns
 returns c =
-    let start = c.read_signed-start in
-    let same : to_z w32 (of_z w32 start.result.value) ≡ start.result.value = search rules in
-    simp same (held-read (head-told c.read_head-head.ensures) c.read_elements-plan.ensures (signed-told start.ensures) c.read_tangents-profile.ensures c.read_crossfalls-points.ensures)
+    let l = c.loop-j in
+    ends (list_ends (λ _. point) (with_crossfalls l.a.head l.a.plan l.a.start l.a.tangents) l.a.crossfalls (omega arith) l.invariant.left) gives
