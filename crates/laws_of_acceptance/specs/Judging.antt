@@ -64,7 +64,7 @@ module _ (l : Limits) (r : Road) where
   passes_kept (rule ∷ later) e = go (first_broken rule l r) refl (λ f. passes_kept later f)
     where
       go : (o : Option ℕ) → first_broken rule l r ≡ o → (judge later l r ≡ passes → KeptBefore later (length later) l r) → KeptBefore (rule ∷ later) (suc (length later)) l r
-      go (Some i) p ih = absurd (let h = judge-stop rule later p in let z : ◌≡◌ {A = ℕ} 0 1 = cc in omega arith)
+      go (Some i) p ih = absurd (let h = judge-stop rule later p in cc)
       go None p ih = kept_later rule later (length later) (none_keeps rule p) (ih (sym (judge-next rule later p) ∙ e))
 
   pub kept-passes : (rules : List Rule) → KeptBefore rules (length rules) l r → judge rules l r ≡ passes
@@ -74,7 +74,7 @@ module _ (l : Limits) (r : Road) where
 
   pub judge-broken : (rules : List Rule) (n p : ℕ) → judge rules l r ≡ breaks n p → Broken rules l r n p
   unfolding judge first_broken
-  judge-broken [] n p e = absurd (let z : ◌≡◌ {A = ℕ} 0 1 = cc in omega arith)
+  judge-broken [] n p e = absurd (cc)
   judge-broken (rule ∷ later) n p e = go (first_broken rule l r) refl (λ f. judge-broken later n p f)
     where
       go : (o : Option ℕ) → first_broken rule l r ≡ o → (judge later l r ≡ breaks n p → Broken later l r n p) → Broken (rule ∷ later) l r n p

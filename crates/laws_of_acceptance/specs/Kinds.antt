@@ -8,7 +8,6 @@ use Rattle.std.proofs.Math.Numerals.{add-one}
 use native.Mathlib.Omega.{arith}
 use Rattle.std.proofs.Math.Decide.{dec_lt}
 use Rattle.std.proofs.Math.ListN.{length}
-use Rattle.std.proofs.lemmas.Option.{none-some}
 use Rattle.road.specs.Base.{first_from, first_that}
 use Rattle.road.specs.File.{Road, straight_kind, arc_kind, clothoid_kind}
 use Rattle.road.specs.declared.Limits.{Limits}
@@ -99,34 +98,34 @@ mutual
 
   from-straight : (ks : List Kind) (i : ℕ) (a : Kind) → stop (suc i) a Straight ks ≡ None → AllowedOrder (Straight ∷ ks)
   from-straight [] i a h = straight
-  from-straight (Straight ∷ ks) i a h = absurd (none-some _ (sym h))
-  from-straight (Arc ∷ ks) i a h = absurd (none-some _ (sym h))
+  from-straight (Straight ∷ ks) i a h = absurd cc
+  from-straight (Arc ∷ ks) i a h = absurd cc
   from-straight (Clothoid ∷ ks) i a h = bent (from-entry ks (suc i) Straight refl h)
 
   from-entry : (ks : List Kind) (i : ℕ) (a : Kind) → arc_kind a ≡ false → stop (suc i) a Clothoid ks ≡ None → Turn ks
-  from-entry [] i a o h = absurd (none-some _ (sym h))
-  from-entry (Straight ∷ ks) i a o h = absurd (none-some _ (sym (rw o at h)))
+  from-entry [] i a o h = absurd cc
+  from-entry (Straight ∷ ks) i a o h = absurd (let n = rw o at h in cc)
   from-entry (Arc ∷ ks) i a o h = from-arc ks (suc i) h
-  from-entry (Clothoid ∷ ks) i a o h = absurd (none-some _ (sym (rw o at h)))
+  from-entry (Clothoid ∷ ks) i a o h = absurd (let n = rw o at h in cc)
 
   from-arc : (ks : List Kind) (i : ℕ) → stop (suc i) Clothoid Arc ks ≡ None → Turn (Arc ∷ ks)
-  from-arc [] i h = absurd (none-some _ (sym h))
-  from-arc (Straight ∷ ks) i h = absurd (none-some _ (sym h))
-  from-arc (Arc ∷ ks) i h = absurd (none-some _ (sym h))
+  from-arc [] i h = absurd cc
+  from-arc (Straight ∷ ks) i h = absurd cc
+  from-arc (Arc ∷ ks) i h = absurd cc
   from-arc (Clothoid ∷ ks) i h = from_exit ks (suc i) h
 
   from_exit : (ks : List Kind) (i : ℕ) → stop (suc i) Arc Clothoid ks ≡ None → Turn (Arc ∷ Clothoid ∷ ks)
-  from_exit [] i h = absurd (none-some _ (sym h))
+  from_exit [] i h = absurd cc
   from_exit (Straight ∷ ks) i h = turn last (from-straight ks (suc i) Clothoid h)
   from_exit (Arc ∷ ks) i h = linked (from-arc ks (suc i) h)
   from_exit (Clothoid ∷ ks) i h = reversed (from-entry ks (suc i) Clothoid refl h)
 
 passing_allowed : (ks : List Kind) → stop 0 Straight Straight ks ≡ None → AllowedOrder ks
 unfolding stop
-passing_allowed [] h = absurd (none-some _ (sym h))
+passing_allowed [] h = absurd cc
 passing_allowed (Straight ∷ ks) h = from-straight ks 0 Straight h
-passing_allowed (Arc ∷ ks) h = absurd (none-some _ (sym h))
-passing_allowed (Clothoid ∷ ks) h = absurd (none-some _ (sym h))
+passing_allowed (Arc ∷ ks) h = absurd cc
+passing_allowed (Clothoid ∷ ks) h = absurd cc
 
 -- ---- where it stops is the first wrong place
 
@@ -157,8 +156,8 @@ first : (ks : List Kind) (i : ℕ) (a b : Kind) (Allowed : List Kind → Type 0)
 unfolding stop
 first [] i a b Allowed same {p} h =
     elim (may_end i b) as (λ m. (if m then None else Some i) ≡ Some p → WrongFrom Allowed [] i p) [
-      | true ↦ λ g. absurd (none-some p g)
-      | false ↦ λ g. at_once [] i a b same g (λ l. absurd (omega arith)) (λ e x. none-some p (sym ((same []).1 x) ∙ h))
+      | true ↦ λ g. absurd cc
+      | false ↦ λ g. at_once [] i a b same g (λ l. absurd (omega arith)) (λ e x. let n = (same []).1 x in cc)
     ] h
 first (k ∷ ks) i a b Allowed same {p} h =
     elim (may i a b k) as (λ m. may i a b k ≡ m → (if m then stop (suc i) b k ks else Some i) ≡ Some p → WrongFrom Allowed (k ∷ ks) i p) [
@@ -167,7 +166,7 @@ first (k ∷ ks) i a b Allowed same {p} h =
           let d = f.1 in
           let w = f.2.within in
           (suc f.0, omega arith, record { within = omega arith; before = f.2.before; is_wrong_kind = λ l. f.2.is_wrong_kind (omega arith); stops_short = λ q. f.2.stops_short (omega arith) })
-      | false ↦ λ e g. at_once (k ∷ ks) i a b same g (λ l c. none-some i (rw e at (sym ((same (k ∷ c.0)).1 c.1)))) (λ q. absurd (omega arith))
+      | false ↦ λ e g. at_once (k ∷ ks) i a b same g (λ l c. let n = rw e at ((same (k ∷ c.0)).1 c.1) in cc) (λ q. absurd (omega arith))
     ] refl h
 
 stop_wrong : (ks : List Kind) {p : ℕ} → stop 0 Straight Straight ks ≡ Some p → FirstWrong AllowedOrder ks p

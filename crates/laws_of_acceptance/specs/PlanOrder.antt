@@ -38,7 +38,7 @@ pub record BendBefore (r : Road) (i : ℕ) : Type 0 where
 
 behind-clothoid : (a b e : Element) → b.kind ≡ Clothoid → a.kind ≡ Straight → may_follow a b e ≡ true → e.kind ≡ Arc
 unfolding may_follow
-behind-clothoid a b e k j h = ⊎_elim (is-arc-kind e.kind) (λ q. absurd (both_ways false refl q)) (or_cases (is_arc e) false (rw (k, j) at h))
+behind-clothoid a b e k j h = ⊎_elim (is-arc-kind e.kind) (λ q. absurd cc) (or_cases (is_arc e) false (rw (k, j) at h))
 
 behind-other : (a b e : Element) → is_clothoid b ≡ false → may_follow a b e ≡ true → e.kind ≡ Clothoid
 unfolding may_follow

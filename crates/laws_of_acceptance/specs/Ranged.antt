@@ -4,7 +4,6 @@ use Rattle.std.proofs.Common.{sym, ap, ◌∙◌, subst, arith, leb→le}
 use Rattle.file_numbers.specs.Reading.{Got, got, refused, and_then, Reading}
 use Rattle.file_numbers.specs.Reading.{many}
 use Rattle.laws_of_lists.specs.All.{All, none, more}
-use Rattle.std.proofs.lemmas.Bool.{both_ways}
 use Rattle.laws_of_lists.specs.Tests.{and_T}
 use Rattle.std.specs.Int.Signed.{le_z}
 use Rattle.road.specs.Exact.{is_arc, blank_tangent}
@@ -74,10 +73,10 @@ arc-radius : (b : Bool) (s : List ℕ) (at : ℕ) {v : ℤ} {next : ℕ} → rad
 arc-radius true s at {v} e q =
     let t = and_T (leb 10000 (nat_abs v)) (leb (nat_abs v) 10000000) (signed-fits (in_size 10000 10000000) s at e) in
     record { low = leb→le 10000 (nat_abs v) t.0; high = leb→le (nat_abs v) 10000000 t.1 }
-arc-radius false s at e q = absurd (both_ways false refl q)
+arc-radius false s at e q = absurd cc
 
 other-radius : (b : Bool) (s : List ℕ) (at : ℕ) {v : ℤ} {next : ℕ} → radius b s at ≡ got v next → b ≡ false → v ≡ pos 0
-other-radius true s at e q = absurd (both_ways true q refl)
+other-radius true s at e q = absurd cc
 other-radius false s at e q = cc
 
 pub record ElementRange (e : Element) : Type 0 where

@@ -5,7 +5,7 @@ use Rattle.std.proofs.Math.Path.{ap}
 use Prim.Native.Nat.{ℕ, zero, suc, ◌+◌, ◌*◌, ◌-◌, ◌≤◌, ◌<◌, min, max}
 use native.Mathlib.Omega.{arith}
 use Rattle.std.proofs.Math.Decide.{dec_le}
-use Rattle.std.proofs.lemmas.Bool.{eqb-false, not-true, not-false, and_from, and_parts, both_ways, or_cases, or_parts}
+use Rattle.std.proofs.lemmas.Bool.{eqb-false, not-true, not-false, and_from, and_parts, or_cases, or_parts}
 use Rattle.std.proofs.Math.IntN.{pos}
 use Rattle.std.specs.Int.Signed.{lt_z}
 use Rattle.integers.specs.Bridge.{int, ◌⊖◌, eq!, abs?}
@@ -67,7 +67,7 @@ changes-on r i = (there, λ h. rw (first-clear (λ j. meets_at r i j && changes_
     there e = go (first_that (λ j. meets_at r i j && changes_at r j) (length r.crossfalls - 1)) refl e
       where
         go : (o : Option ℕ) → first_that (λ j. meets_at r i j && changes_at r j) (length r.crossfalls - 1) ≡ o → elim o [ Some j ↦ true | None ↦ false ] ≡ false → (j : ℕ) → j < length r.crossfalls - 1 → (meets_at r i j && changes_at r j) ≡ false
-        go (Some k) p q = absurd (both_ways true q refl)
+        go (Some k) p q = absurd cc
         go None p q = first-none (λ j. meets_at r i j && changes_at r j) (length r.crossfalls - 1) p
 
 -- a pair of points with one crossfall
@@ -115,7 +115,7 @@ module _ {r : Road} (P : PointOrder r) (two : 2 ≤ length r.crossfalls) (i : �
       where
         go : (c : Bool) → c ≡ true → (c && changes_at r j) ≡ false → changes_at r j ≡ false
         go true e f = f
-        go false e f = absurd (both_ways false refl e)
+        go false e f = absurd cc
 
     -- from the point at the start to the point at t
     module _ (d : Side) (t : ℕ) (from-a : a ≤ t) (before-b : t < b) where
@@ -287,7 +287,7 @@ superelevation_iff {r} P two l i h long = (λ e q. there (is_arc (element_of r i
     there : (c : Bool) → c ≡ true → (c && (changes_on r i || not (superelevated R p || crowned l R p))) ≡ false → Constant r i × (Superelevated R p ⊎ Crowned l R p)
     there true q e =
         (steady.0 (or_parts (changes_on r i) (not (superelevated R p || crowned l R p)) e).0, form (or_cases (superelevated R p) (crowned l R p) (not-false (superelevated R p || crowned l R p) (or_parts (changes_on r i) (not (superelevated R p || crowned l R p)) e).1)))
-    there false q e = absurd (both_ways false refl q)
+    there false q e = absurd cc
 
     back : (c : Bool) → is_arc (element_of r i) ≡ c → (is_arc (element_of r i) ≡ true → Constant r i × (Superelevated R p ⊎ Crowned l R p)) → (c && (changes_on r i || not (superelevated R p || crowned l R p))) ≡ false
     back false q k = refl

@@ -4,7 +4,6 @@ use Rattle.std.proofs.Common.{sym, ap, ◌∙◌, subst, arith, eqb→eq}
 use Prim.Native.Nat.{ℕ, zero, suc, ◌+◌, ◌<◌, ◌≤◌, min, compare, Ordering}
 use Rattle.std.proofs.Math.Decide.{ℕ_discrete, dec_lt}
 use Rattle.std.proofs.Math.Dec.{compare_is_eq}
-use Rattle.std.proofs.lemmas.Option.{none-some}
 use Rattle.road.specs.Base.{first_from, first_that}
 use Rattle.road.specs.Listed.{insert, ascending, counted, or_less, least_from}
 use Rattle.std.proofs.lemmas.Bool.{both_ways}
@@ -36,7 +35,7 @@ first_from-none test zero k e = λ i l u. absurd (omega arith)
 first_from-none test (suc n) k e = go (test k) refl (λ f. first_from-none test n (suc k) f)
   where
     go : (b : Bool) → test k ≡ b → (first_from test n (suc k) ≡ None → Clear test (suc k) n) → Clear test k (suc n)
-    go true p ih = absurd (none-some k (sym e ∙ first_from_yes test n k p))
+    go true p ih = absurd (let h = first_from_yes test n k p in cc)
     go false p ih = clear-more test k n p (ih (sym (first_from_no test n k p) ∙ e))
 
 first_from-clear : (test : ℕ → Bool) (n k : ℕ) → Clear test k n → first_from test n k ≡ None
@@ -60,7 +59,7 @@ record From (test : ℕ → Bool) (n k i : ℕ) : Type 0 where
 
 first_from_some : (test : ℕ → Bool) (n k i : ℕ) → first_from test n k ≡ Some i → From test n k i
 unfolding first_from
-first_from_some test zero k i e = absurd (none-some i e)
+first_from_some test zero k i e = absurd cc
 first_from_some test (suc n) k i e = go (test k) refl (λ f. first_from_some test n (suc k) i f)
   where
     go : (b : Bool) → test k ≡ b → (first_from test n (suc k) ≡ Some i → From test n (suc k) i) → From test (suc n) k i
