@@ -21,7 +21,7 @@ fn read_fields(r: &mut Reader) -> Result<Alignment, Refusal>
 {
     let mut a = Alignment::new(read_head(r)?);
     let elements = read_field(r, 1, 200)?;
-    for i in 0..elements {
+    for _ in 0..elements {
         a.push_element(read_element(r)?);
     }
     a.set_start(read_signed(r, -500_000, 3_000_000)?);
@@ -30,7 +30,7 @@ fn read_fields(r: &mut Reader) -> Result<Alignment, Refusal>
         a.push_tangent(read_tangent(r, follow)?);
     }
     let crossfalls = read_field(r, 2, 200)?;
-    for j in 0..crossfalls {
+    for _ in 0..crossfalls {
         a.push_crossfall(read_crossfall(r)?);
     }
     Ok(a)

@@ -19,42 +19,42 @@ returns-in_err-read_head c = grind (arith, stopped)
 pub returns-in_err-elements : goal.returns-in_err-elements
 returns-in_err-elements c = let p = refused-there _ (plan_left c.in_ok-read_head.ensures) c.in_err-elements.ensures in grind arith
 
-pub loop-i-init : goal.loop-i-init
-loop-i-init c =
+pub loop-init : goal.loop-init
+loop-init c =
     let p = onward _ (plan_left c.in_ok-read_head.ensures) c.in_ok-elements.ensures in
     rw (c.new-a.ensures, sub-zero c.in_ok-elements.elements) (record { left = p; long = refl; no_tangent = refl; no_crossfall = refl })
 
 pub returns-in_err-read_element : goal.returns-in_err-read_element
 returns-in_err-read_element c =
-    let l = c.loop-i in
-    let p = item_refused (λ _. element) (after_plan l.a.head) l.a.plan (c.in_ok-elements.elements - (l.i + 1)) (omega arith) l.invariant.left c.in_err-read_element.ensures in
+    let l = c.loop in
+    let p = item_refused (λ _. element) (after_plan l.a.head) l.a.plan (c.in_ok-elements.elements - (l.counter + 1)) (omega arith) l.invariant.left c.in_err-read_element.ensures in
     grind arith
 
 pub push_element-requires : goal.push_element-requires
 push_element-requires c = let few = field-within 1 200 _ _ (sym c.in_ok-elements.ensures.read) in omega arith
 
-pub loop-i-preserved : goal.loop-i-preserved
-loop-i-preserved c =
-    let l = c.loop-i in
-    let p = item (λ _. element) (after_plan l.a.head) l.a.plan (c.in_ok-elements.elements - (l.i + 1)) (omega arith) l.invariant.left c.in_ok-read_element.ensures in
+pub loop-preserved : goal.loop-preserved
+loop-preserved c =
+    let l = c.loop in
+    let p = item (λ _. element) (after_plan l.a.head) l.a.plan (c.in_ok-elements.elements - (l.counter + 1)) (omega arith) l.invariant.left c.in_ok-read_element.ensures in
     rw c.push_element.ensures (record { left = p; long = omega (arith, length-append {A = Element}); no_tangent = l.invariant.no_tangent; no_crossfall = l.invariant.no_crossfall })
 
 pub returns-in_err-read_signed : goal.returns-in_err-read_signed
 returns-in_err-read_signed c =
-    let l = c.loop-i in
+    let l = c.loop in
     let p = refused-there _ (profile_left l.a.head l.a.plan (list_ends (λ _. element) (after_plan l.a.head) l.a.plan (omega arith) l.invariant.left)) c.in_err-read_signed.ensures in
     grind arith
 
 pub returns-in_err-tangents : goal.returns-in_err-tangents
 returns-in_err-tangents c =
-    let l = c.loop-i in
+    let l = c.loop in
     let q = onward _ (profile_left l.a.head l.a.plan (list_ends (λ _. element) (after_plan l.a.head) l.a.plan (omega arith) l.invariant.left)) c.in_ok-read_signed.ensures in
     let p = refused-there _ q c.in_err-tangents.ensures in
     grind arith
 
 pub loop-follow-init : goal.loop-follow-init
 loop-follow-init c =
-    let l = c.loop-i in
+    let l = c.loop in
     let q = onward _ (profile_left l.a.head l.a.plan (list_ends (λ _. element) (after_plan l.a.head) l.a.plan (omega arith) l.invariant.left)) c.in_ok-read_signed.ensures in
     let p = onward _ q c.in_ok-tangents.ensures in
     let same : to_z w32 (of_z w32 c.in_ok-read_signed.field-0) ≡ c.in_ok-read_signed.field-0 = search rules in
@@ -82,8 +82,8 @@ returns-in_err-crossfalls c =
     let p = refused-there _ q c.in_err-crossfalls.ensures in
     grind arith
 
-pub loop-j-init : goal.loop-j-init
-loop-j-init c =
+pub loop-2-init : goal.loop-2-init
+loop-2-init c =
     let l = c.loop-follow in
     let q = crossfalls_left l.a.head l.a.plan l.a.start l.a.tangents (list_ends tangent (with_tangents l.a.head l.a.plan l.a.start) l.a.tangents (omega arith) l.invariant.left) in
     let p = onward _ q c.in_ok-crossfalls.ensures in
@@ -91,20 +91,20 @@ loop-j-init c =
 
 pub returns-in_err-read_crossfall : goal.returns-in_err-read_crossfall
 returns-in_err-read_crossfall c =
-    let l = c.loop-j in
-    let p = item_refused (λ _. point) (with_crossfalls l.a.head l.a.plan l.a.start l.a.tangents) l.a.crossfalls (c.in_ok-crossfalls.crossfalls - (l.j + 1)) (omega arith) l.invariant.left c.in_err-read_crossfall.ensures in
+    let l = c.loop-2 in
+    let p = item_refused (λ _. point) (with_crossfalls l.a.head l.a.plan l.a.start l.a.tangents) l.a.crossfalls (c.in_ok-crossfalls.crossfalls - (l.counter + 1)) (omega arith) l.invariant.left c.in_err-read_crossfall.ensures in
     grind arith
 
 pub push_crossfall-requires : goal.push_crossfall-requires
 push_crossfall-requires c = let few = field-within 2 200 _ _ (sym c.in_ok-crossfalls.ensures.read) in omega arith
 
-pub loop-j-preserved : goal.loop-j-preserved
-loop-j-preserved c =
-    let l = c.loop-j in
-    let p = item (λ _. point) (with_crossfalls l.a.head l.a.plan l.a.start l.a.tangents) l.a.crossfalls (c.in_ok-crossfalls.crossfalls - (l.j + 1)) (omega arith) l.invariant.left c.in_ok-read_crossfall.ensures in
+pub loop-2-preserved : goal.loop-2-preserved
+loop-2-preserved c =
+    let l = c.loop-2 in
+    let p = item (λ _. point) (with_crossfalls l.a.head l.a.plan l.a.start l.a.tangents) l.a.crossfalls (c.in_ok-crossfalls.crossfalls - (l.counter + 1)) (omega arith) l.invariant.left c.in_ok-read_crossfall.ensures in
     rw c.push_crossfall.ensures (record { left = p; long = omega (arith, length-append {A = Crossfall}) })
 
 pub returns : goal.returns
 returns c =
-    let l = c.loop-j in
+    let l = c.loop-2 in
     ends (list_ends (λ _. point) (with_crossfalls l.a.head l.a.plan l.a.start l.a.tangents) l.a.crossfalls (omega arith) l.invariant.left) gives

@@ -6,10 +6,10 @@ use Rattle.alignment.proofs.Lists.{more}
 use Rattle.alignment.proofs.Parts.{after_plan, with_tangents, with_crossfalls}
 use Rattle.alignment.proofs.read_fields.Given as goal
 
-abbrev pub invariant-loop-i : goal.invariant-loop-i
-invariant-loop-i l = record {
-  left : Left fields l.fn.r (more (λ _. element) (after_plan l.a.head) (l.elements - l.i) l.a.plan) l.r;
-  long : length l.a.plan ≡ l.i;
+abbrev pub invariant-loop : goal.invariant-loop
+invariant-loop l = record {
+  left : Left fields l.fn.r (more (λ _. element) (after_plan l.a.head) (l.elements - l.counter) l.a.plan) l.r;
+  long : length l.a.plan ≡ l.counter;
   no_tangent : l.a.tangents ≡ [];
   no_crossfall : l.a.crossfalls ≡ [];
 }
@@ -21,8 +21,8 @@ invariant-loop-follow l = record {
   no_crossfall : l.a.crossfalls ≡ [];
 }
 
-abbrev pub invariant-loop-j : goal.invariant-loop-j
-invariant-loop-j l = record {
-  left : Left fields l.fn.r (more (λ _. point) (with_crossfalls l.a.head l.a.plan l.a.start l.a.tangents) (l.crossfalls - l.j) l.a.crossfalls) l.r;
-  long : length l.a.crossfalls ≡ l.j;
+abbrev pub invariant-loop-2 : goal.invariant-loop-2
+invariant-loop-2 l = record {
+  left : Left fields l.fn.r (more (λ _. point) (with_crossfalls l.a.head l.a.plan l.a.start l.a.tangents) (l.crossfalls - l.counter) l.a.crossfalls) l.r;
+  long : length l.a.crossfalls ≡ l.counter;
 }
