@@ -6,7 +6,7 @@ use Rattle.file_numbers.specs.Reading.{Got, got, refused, and_then, Reading, ◌
 use Rattle.reader.specs.Standing.{Standing}
 use Rattle.road.specs.declared.refusal.Refusal.{Refusal}
 use Rattle.fields.specs.Reads.{Reads}
-use Rattle.alignment.proofs.Onward.{Left, told, onward, refused-there}
+use Rattle.alignment.proofs.Onward.{Left, told, onward, refused_there}
 
 module _ {A B : Type 0} (one : ℕ → Reading A) (k : List A → Reading B) where
   -- some items were read, so many more follow, and then what the list leads to
@@ -34,13 +34,13 @@ module _ {A B : Type 0} (one : ℕ → Reading A) (k : List A → Reading B) whe
     pub list_ends : {left : ℕ} → left ≡ 0 → Left whole first (more left xs) now → Left whole first (k xs) now
     list_ends none l = told l (ap (λ (i : ℕ). more i xs now.bytes now.place) none ∙ no_more xs now.bytes now.place)
 
-    module _ (n : ℕ) {left : ℕ} (one-fewer : left ≡ suc n) (l : Left whole first (more left xs) now) where
+    module _ (n : ℕ) {left : ℕ} (one_fewer : left ≡ suc n) (l : Left whole first (more left xs) now) where
       next_item : Left whole first (◌>>=◌ (one n) λ a. more n (xs ++ a ∷ [])) now
-      next_item = told l (ap (λ (i : ℕ). more i xs now.bytes now.place) one-fewer ∙ one-more n xs now.bytes now.place)
+      next_item = told l (ap (λ (i : ℕ). more i xs now.bytes now.place) one_fewer ∙ one-more n xs now.bytes now.place)
 
       -- an item was read
       pub item : {a : A} {next : Standing} → Reads (one n) now next (Ok a) → Left whole first (more n (xs ++ a ∷ [])) next
       item r = onward (λ a. more n (xs ++ a ∷ [])) next_item r
 
       pub item_refused : {e : Refusal} {next : Standing} → Reads (one n) now next (Err e) → Reads whole first next (Err e)
-      item_refused r = refused-there (λ a. more n (xs ++ a ∷ [])) next_item r
+      item_refused r = refused_there (λ a. more n (xs ++ a ∷ [])) next_item r

@@ -33,5 +33,5 @@ module _ {A : Type 0} {whole : Reading A} {first : Standing} where
     }
 
     -- a refusal stays
-    pub refused-there : {e : Refusal} → Reads part now next (Err e) → Reads whole first next (Err e)
-    refused-there r = ends l (stopped f r)
+    pub refused_there : {e : Refusal} → Reads part now next (Err e) → Reads whole first next (Err e)
+    refused_there r = ends l (stopped f r)

@@ -1,5 +1,7 @@
 -- The parts of the file, each with what follows it: head, plan, start and profile, crossfall points. Assumes nothing.
-use Rattle.std.specs.Prelude.{◌≡◌, refl, List, [], ℕ, ℤ, pos, negsuc, Ok}
+use Rattle.laws_of_acceptance.specs.Ranged.{field-within}
+use Rattle.std.proofs.Common.{sym}
+use Rattle.std.specs.Prelude.{◌≡◌, ◌≤◌, refl, List, [], ℕ, ℤ, pos, negsuc, Ok}
 use Rattle.file_numbers.specs.Reading.{Got, got, refused, and_then, Reading, ◌>>=◌, give, many}
 use Rattle.reader.specs.Standing.{Standing}
 use Rattle.road.specs.File.{Road, Profile, field, signed, between, element, tangent, point, head_fields, plan_fields, profile_fields, crossfall_fields, road_of, fields}
@@ -74,3 +76,7 @@ crossfalls_counted head es start ts count = more (λ _. point) (with_crossfalls 
 pub crossfalls_left : {first now : Standing} (head : Head) (es : List Element) (start : ℤ) (ts : List Tangent) → Left fields first (with_tangents head es start ts) now → Left fields first (◌>>=◌ (field 2 200) (crossfalls_counted head es start ts)) now
 unfolding crossfall_fields
 crossfalls_left {first} {now} head es start ts l = told l (regrouped (field 2 200) (many (λ _. point)) (with_crossfalls head es start ts) now.bytes now.place)
+
+-- a count that was read is in its range
+pub few : (low high : ℕ) {before after : Standing} {count : ℕ} → Reads (field low high) before after (Ok count) → count ≤ high
+few low high {before} r = (field-within low high before.bytes before.place (sym r.read)).high

@@ -16,6 +16,7 @@ use road::{Alignment, Fault, Refusal};
 const LONGEST: usize = 8192;
 
 // Every field of the file, in order.
+#[tactic(auto, using(fields::specs::Onward::stopped, crate::proofs::Parts::few), unfolding(road::specs::File::fields))]
 fn read_fields(r: &mut Reader) -> Result<Alignment, Refusal>
     ensures { Reads fields r.old r.new result }
 {

@@ -1,23 +1,18 @@
 -- Part after part: what was read leaves the rest, and a refusal stays.
-use Rattle.std.proofs.Common.{rules, refl, zero-add, length-append, arith, ◌≡◌, ◌-◌, ◌+◌, sym, to_z, of_z, w32}
+use Rattle.std.proofs.Common.{rules, refl, zero-add, length-append, arith, ◌≡◌, ◌-◌, ◌+◌, to_z, of_z, w32}
 use Rattle.std.proofs.Math.Nat.{sub-zero}
 use Rattle.road.specs.declared.Element.{Element}
 use Rattle.road.specs.declared.Tangent.{Tangent}
 use Rattle.road.specs.declared.Crossfall.{Crossfall}
-use Rattle.laws_of_acceptance.specs.Ranged.{field-within}
-use Rattle.road.specs.File.{element, tangent, point, fields}
-use Rattle.fields.specs.Onward.{stopped, gives}
-use Rattle.alignment.proofs.Onward.{ends, onward, refused-there}
+use Rattle.road.specs.File.{element, tangent, point}
+use Rattle.fields.specs.Onward.{gives}
+use Rattle.alignment.proofs.Onward.{ends, onward, refused_there}
 use Rattle.alignment.proofs.Lists.{list_ends, item, item_refused}
 use Rattle.alignment.proofs.Parts.{after_plan, plan_left, profile_left, with_tangents, crossfalls_left, with_crossfalls}
 use Rattle.alignment.proofs.read_fields.Goals as goal
 
-pub returns-in_err-read_head : goal.returns-in_err-read_head
-unfolding fields
-returns-in_err-read_head c = grind (arith, stopped)
-
 pub returns-in_err-elements : goal.returns-in_err-elements
-returns-in_err-elements c = let p = refused-there _ (plan_left c.in_ok-read_head.ensures) c.in_err-elements.ensures in grind arith
+returns-in_err-elements c = let p = refused_there _ (plan_left c.in_ok-read_head.ensures) c.in_err-elements.ensures in grind arith
 
 pub loop-init : goal.loop-init
 loop-init c =
@@ -30,9 +25,6 @@ returns-in_err-read_element c =
     let p = item_refused (λ _. element) (after_plan l.a.head) l.a.plan (c.in_ok-elements.elements - (l.counter + 1)) (omega arith) l.invariant.left c.in_err-read_element.ensures in
     grind arith
 
-pub push_element-requires : goal.push_element-requires
-push_element-requires c = let few = field-within 1 200 _ _ (sym c.in_ok-elements.ensures.read) in omega arith
-
 pub loop-preserved : goal.loop-preserved
 loop-preserved c =
     let l = c.loop in
@@ -42,14 +34,14 @@ loop-preserved c =
 pub returns-in_err-read_signed : goal.returns-in_err-read_signed
 returns-in_err-read_signed c =
     let l = c.loop in
-    let p = refused-there _ (profile_left l.a.head l.a.plan (list_ends (λ _. element) (after_plan l.a.head) l.a.plan (omega arith) l.invariant.left)) c.in_err-read_signed.ensures in
+    let p = refused_there _ (profile_left l.a.head l.a.plan (list_ends (λ _. element) (after_plan l.a.head) l.a.plan (omega arith) l.invariant.left)) c.in_err-read_signed.ensures in
     grind arith
 
 pub returns-in_err-tangents : goal.returns-in_err-tangents
 returns-in_err-tangents c =
     let l = c.loop in
     let q = onward _ (profile_left l.a.head l.a.plan (list_ends (λ _. element) (after_plan l.a.head) l.a.plan (omega arith) l.invariant.left)) c.in_ok-read_signed.ensures in
-    let p = refused-there _ q c.in_err-tangents.ensures in
+    let p = refused_there _ q c.in_err-tangents.ensures in
     grind arith
 
 pub loop-follow-init : goal.loop-follow-init
@@ -66,9 +58,6 @@ returns-in_err-read_tangent c =
     let p = item_refused tangent (with_tangents l.a.head l.a.plan l.a.start) l.a.tangents (l.follow - 1) (omega arith) l.invariant.left c.in_err-read_tangent.ensures in
     grind arith
 
-pub push_tangent-requires : goal.push_tangent-requires
-push_tangent-requires c = let few = field-within 1 100 _ _ (sym c.in_ok-tangents.ensures.read) in omega arith
-
 pub loop-follow-preserved : goal.loop-follow-preserved
 loop-follow-preserved c =
     let l = c.loop-follow in
@@ -79,7 +68,7 @@ pub returns-in_err-crossfalls : goal.returns-in_err-crossfalls
 returns-in_err-crossfalls c =
     let l = c.loop-follow in
     let q = crossfalls_left l.a.head l.a.plan l.a.start l.a.tangents (list_ends tangent (with_tangents l.a.head l.a.plan l.a.start) l.a.tangents (omega arith) l.invariant.left) in
-    let p = refused-there _ q c.in_err-crossfalls.ensures in
+    let p = refused_there _ q c.in_err-crossfalls.ensures in
     grind arith
 
 pub loop-2-init : goal.loop-2-init
@@ -94,9 +83,6 @@ returns-in_err-read_crossfall c =
     let l = c.loop-2 in
     let p = item_refused (λ _. point) (with_crossfalls l.a.head l.a.plan l.a.start l.a.tangents) l.a.crossfalls (c.in_ok-crossfalls.crossfalls - (l.counter + 1)) (omega arith) l.invariant.left c.in_err-read_crossfall.ensures in
     grind arith
-
-pub push_crossfall-requires : goal.push_crossfall-requires
-push_crossfall-requires c = let few = field-within 2 200 _ _ (sym c.in_ok-crossfalls.ensures.read) in omega arith
 
 pub loop-2-preserved : goal.loop-2-preserved
 loop-2-preserved c =
