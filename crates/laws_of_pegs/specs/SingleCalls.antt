@@ -45,24 +45,24 @@ unfolding pegs_answer pegs_buffer
 answered f pegs b n e = go (accepted f) refl e
   where
     rows : (r : Road) (end : ℕ) → accepted f ≡ got r end → 96 * length pegs ≤ length b → (o : Option ℕ) → first_bad (total r) pegs ≡ o → rows_or24 r pegs o ≡ wrote n → Answered f pegs b n
-    rows r end w room (Some i) q h = absurd (let z : ◌≡◌ {A = ℕ} 0 1 = cc in omega arith)
+    rows r end w room (Some i) q h = cc
     rows r end w room None q h =
         let g = pegs-written r pegs b room q in
-        record { road = r; end = end; was = w; room = room; pegs_good = good (total r) pegs q; length-is = cc; buffer-is = sym (pegs-accepted f pegs b r end w (g.answered, g.buffer)).1 }
+        record { road = r; end = end; was = w; room = room; pegs_good = good (total r) pegs q; length-is = cc; buffer-is = sym (pegs-accepted f pegs b r end w g).buffer }
 
     by : (r : Road) (end : ℕ) → accepted f ≡ got r end → (c : Bool) → ltb (length b) (96 * length pegs) ≡ c → (if c then refusal 20 0 else rows_or24 r pegs (first_bad (total r) pegs)) ≡ wrote n → Answered f pegs b n
-    by r end w true q h = absurd (let z : ◌≡◌ {A = ℕ} 0 1 = cc in omega arith)
+    by r end w true q h = cc
     by r end w false q h = rows r end w (ltb-false (length b) (96 * length pegs) q) (first_bad (total r) pegs) refl h
 
     go : (g : Got Road) → accepted f ≡ g → pegs_on pegs (length b) g ≡ wrote n → Answered f pegs b n
-    go (refused k p) w h = absurd (let z : ◌≡◌ {A = ℕ} 0 1 = cc in omega arith)
+    go (refused k p) w h = cc
     go (got r end) w h = by r end w (ltb (length b) (96 * length pegs)) refl h
 
 -- good pegs of an accepted file are answered, in a buffer with 96 bytes for each
 pub good_answered : (f pegs b : List ℕ) (r : Road) (end : ℕ) → accepted f ≡ got r end → Good (total r) pegs → 96 * length pegs ≤ length b → pegs_answer f pegs (length b) ≡ wrote (length (lines r pegs))
 good_answered f pegs b r end e g room =
     let w = pegs-written r pegs b room (good_none (total r) pegs g) in
-    sym (pegs-accepted f pegs b r end e (w.answered, w.buffer)).0
+    sym (pegs-accepted f pegs b r end e w).answered
 
 -- ---- the single call
 module _ (f : List ℕ) (r : Road) (end : ℕ) (e : accepted f ≡ got r end) (b : List ℕ) (room : 96 ≤ length b) where

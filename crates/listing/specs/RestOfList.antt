@@ -1,5 +1,5 @@
 -- The whole list of a file from its parts: each part and the list from the station it goes on from are the list from where it began.
-use Rattle.std.specs.Prelude.{◌≡◌, refl, Bool, true, false, ℕ, ◌≤◌, ◌<◌, ltb, length, take, drop, if◌then◌else◌}
+use Rattle.std.specs.Prelude.{◌≡◌, refl, Bool, true, false, ℕ, ◌≤◌, ◌<◌, ltb, length, take, drop, if◌then◌else◌, Option, None, Some}
 use Rattle.std.proofs.Math.Path.{sym, ap, ap₂}
 use Rattle.std.proofs.Common.{◌∙◌, arith, ltb-false, le-ltb}
 use mathlib.Core.List.{List, [], ◌++◌}
@@ -11,6 +11,7 @@ use Rattle.road.specs.File.{Road}
 use Rattle.road.specs.Line.{line}
 use Rattle.road.specs.Listed.{listed}
 use Rattle.road.specs.Listing.{refusal_line, list_by, list_of}
+use Rattle.road.specs.Faults.{value, refusal}
 use Rattle.road.specs.Machine.{overwrite}
 use Rattle.road.specs.Rules.{accepted}
 use Rattle.laws_of_acceptance.specs.Guaranteed.{Guaranteed, guaranteed}
@@ -21,9 +22,7 @@ use Rattle.walk.specs.Inside.{listed-inside, chunk-fits}
 use Rattle.walk.specs.AllChunks.{onward-beyond, done-remaining}
 use Rattle.walk.proofs.AllChunksLaws.{remaining-from, onward-listed}
 use Rattle.walk.specs.declared.Chunk.{Chunk}
-use Rattle.walk.specs.declared.Onward.{Onward}
-use Rattle.walk.specs.declared.Onward.TheVariants.{From, Done}
-use Rattle.listing.specs.Chunks.{turned_away, part, list_on, list_answer, rows_on, list_buffer}
+use Rattle.listing.specs.Chunks.{list_on, list_answer, rows_on, list_buffer}
 
 -- the list from a station on; of a refused file its refusal
 abbrev pub rest_by : ℕ → Got Road → List ℕ
@@ -43,9 +42,9 @@ rest_all f = go (accepted f)
     go (got r end) = ap (joined (line r)) (from_all 0 (listed r) (λ z m. omega arith))
 
 -- what follows a part: the list from the station that it goes on from, or nothing
-abbrev pub rest_after : List ℕ → Onward → List ℕ
-rest_after f (From s) = rest_of f s
-rest_after f Done = []
+abbrev pub rest_after : List ℕ → Option ℕ → List ℕ
+rest_after f (Some s) = rest_of f s
+rest_after f None = []
 
 -- an answer with a part: the file is accepted, the buffer has room for a row, and the part is the definition's
 pub record Parted (f : List ℕ) (s room : ℕ) (c : Chunk) : Type 0 where
@@ -55,24 +54,24 @@ pub record Parted (f : List ℕ) (s room : ℕ) (c : Chunk) : Type 0 where
   pub room-left : 96 ≤ room
   pub given : c ≡ answer (chunk road s room)
 
-pub parted : (f : List ℕ) (s room : ℕ) (c : Chunk) → part c ≡ list_answer f s room → Parted f s room c
+pub parted : (f : List ℕ) (s room : ℕ) (c : Chunk) → value c ≡ list_answer f s room → Parted f s room c
 unfolding list_answer
 parted f s room c e = go (accepted f) refl e
   where
-    by : (r : Road) (end : ℕ) → accepted f ≡ got r end → (t : Bool) → ltb room 96 ≡ t → part c ≡ (if t then turned_away 20 0 else part (answer (chunk r s room))) → Parted f s room c
-    by r end w true q h = let z : ◌≡◌ {A = ℕ} 0 1 = cc in absurd (omega arith)
+    by : (r : Road) (end : ℕ) → accepted f ≡ got r end → (t : Bool) → ltb room 96 ≡ t → value c ≡ (if t then refusal 20 0 else value (answer (chunk r s room))) → Parted f s room c
+    by r end w true q h = cc
     by r end w false q h = record { road = r; end = end; was = w; room-left = ltb-false room 96 q; given = cc }
 
-    go : (g : Got Road) → accepted f ≡ g → part c ≡ list_on s room g → Parted f s room c
-    go (refused n p) w h = let z : ◌≡◌ {A = ℕ} 0 1 = cc in absurd (omega arith)
+    go : (g : Got Road) → accepted f ≡ g → value c ≡ list_on s room g → Parted f s room c
+    go (refused n p) w h = cc
     go (got r end) w h = by r end w (ltb room 96) refl h
 
 -- bytes at the start of a buffer that are the list's part from a station on, and how the list goes on: from a later station of the road, or that it is done
 pub record PartOf (f : List ℕ) (s : ℕ) (buffer : List ℕ) (c : Chunk) : Type 0 where
   pub fits : c.bytes ≤ length buffer
   pub whole : rest_of f s ≡ take c.bytes buffer ++ rest_after f c.next
-  pub beyond : (t : ℕ) → c.next ≡ From t → s < t
-  pub inside : (t : ℕ) → c.next ≡ From t → t ≤ 100000000
+  pub beyond : (t : ℕ) → c.next ≡ Some t → s < t
+  pub inside : (t : ℕ) → c.next ≡ Some t → t ≤ 100000000
 
 module _ (f : List ℕ) (s : ℕ) (b : List ℕ) (r : Road) (end : ℕ) (was : accepted f ≡ got r end) where
   abbrev here : Part
@@ -87,10 +86,10 @@ module _ (f : List ℕ) (s : ℕ) (b : List ℕ) (r : Road) (end : ℕ) (was : a
   lines = fit_whole (line r) (length b) (not_below s (listed r))
 
   -- those of the stations that remain are what follows the part
-  follows : (o : Onward) → onward here.remaining ≡ o → joined (line r) here.remaining ≡ rest_after f o
+  follows : (o : Option ℕ) → onward here.remaining ≡ o → joined (line r) here.remaining ≡ rest_after f o
   unfolding rest_of joined
-  follows (From t) e = ap (joined (line r)) (remaining-from G s (length b) t e) ∙ sym (ap (rest_by t) was)
-  follows Done e = ap (joined (line r)) (done-remaining here.remaining e)
+  follows (Some t) e = ap (joined (line r)) (remaining-from G s (length b) t e) ∙ sym (ap (rest_by t) was)
+  follows None e = ap (joined (line r)) (done-remaining here.remaining e)
 
   -- what a walk from s leaves in a buffer with room for a row is a part of the list
   pub walked : 96 ≤ length b → PartOf f s (overwrite here.text b) (answer here)
@@ -109,7 +108,7 @@ module _ (f : List ℕ) (s : ℕ) (b : List ℕ) (r : Road) (end : ℕ) (was : a
       }
 
 -- the answer and the buffer of the routine that lists: a part of the list
-pub part_of_list : (f : List ℕ) (s : ℕ) (b : List ℕ) (c : Chunk) → part c ≡ list_answer f s (length b) → PartOf f s (list_buffer f s b) c
+pub part_of_list : (f : List ℕ) (s : ℕ) (b : List ℕ) (c : Chunk) → value c ≡ list_answer f s (length b) → PartOf f s (list_buffer f s b) c
 unfolding list_buffer
 part_of_list f s b c e =
     let p = parted f s (length b) c e in

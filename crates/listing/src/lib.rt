@@ -3,49 +3,30 @@
 #![tactic(auto)]
 
 ghost use Rattle.std.specs.Prelude.{◌≡◌, length};
-ghost use Rattle.road.specs.Held.{road_in};
-ghost use Rattle.cursors.specs.Places.{RoadReady};
-ghost use Rattle.listing.specs.Chunks.{of_list, list_from, rows_from, list_answer, list_buffer};
+ghost use Rattle.road.specs.Faults.{of_result};
+ghost use Rattle.listing.specs.Chunks.{list_from, rows_from, list_answer, list_buffer};
 
-use acceptance::Outcome;
-use road::AcceptedRoad;
-use walk::Onward;
-
-// A refusal and its place; how many bytes were written and the station to go on from; or how many, and the list is done.
-#[derive(Clone, Copy)]
-pub enum ListAnswer {
-    Refused(u32, usize),
-    More(usize, u64),
-    Done(usize),
-}
+use accepted_road::AcceptedRoad;
+use road::{Fault, Refusal};
+use walk::Chunk;
 
 // The rows of an accepted road: 20 for a buffer under 96 bytes.
-fn put_rows(road: AcceptedRoad, station: u64, out: &mut [u8]) -> ListAnswer
-    requires { RoadReady road }
-    ensures result_value { of_list result ≡ list_from (road_in road.alignment) station (length out.old) }
-    ensures out_after { out.new ≡ rows_from (road_in road.alignment) station out.old }
+fn put_rows(road: &AcceptedRoad, station: u64, out: &mut [u8]) -> Result<Chunk, Refusal>
+    ensures result_value { of_result result ≡ list_from road.now station (length out.old) }
+    ensures out_after { out.new ≡ rows_from road.now station out.old }
 {
     if out.len() < 96 {
-        return ListAnswer::Refused(20, 0);
+        return Err(Fault::ShortBuffer.at(0));
     }
-    let chunk = walk::rows_from(road, station, out);
-    let next = chunk.next;
-    match next {
-        Onward::From(onward) => ListAnswer::More(chunk.bytes, onward),
-        Onward::Done => ListAnswer::Done(chunk.bytes),
-    }
+    Ok(walk::rows_from(road, station, out))
 }
 
 // The rows of the listed stations that are not below a station, or the file's refusal, or 20 for a buffer under 96 bytes.
-pub fn list_rows(file: &[u8], station: u64, out: &mut [u8]) -> ListAnswer
-    ensures result_value { of_list result ≡ list_answer file.now station (length out.old) }
+#[tactic(auto, using(crate::specs::Chunks::answers))]
+pub fn list_rows(file: &[u8], station: u64, out: &mut [u8]) -> Result<Chunk, Refusal>
+    ensures result_value { of_result result ≡ list_answer file.now station (length out.old) }
     ensures out_after { out.new ≡ list_buffer file.now station out.old }
 {
-    let accepted = acceptance::accept(file);
-    let road = accepted.road;
-    let outcome = accepted.outcome;
-    match outcome {
-        Outcome::Refused(number, place) => ListAnswer::Refused(number, place),
-        Outcome::Accepted => put_rows(road, station, out),
-    }
+    let road = acceptance::accept(file)?;
+    put_rows(&road, station, out)
 }

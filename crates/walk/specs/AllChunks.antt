@@ -48,14 +48,14 @@ bytes_are r s b = take-append_seam (chunk r s (length b)).text (drop (length (ch
 -- ---- the station to go on from
 pub done-remaining : (l : List ℕ) → onward l ≡ None → l ≡ []
 done-remaining [] e = refl
-done-remaining (s ∷ l) e = absurd (let z : ◌≡◌ {A = ℕ} 0 1 = cc in omega arith)
+done-remaining (s ∷ l) e = cc
 
 first-remaining : (e t : ℕ) (l : List ℕ) → onward l ≡ Some t → first_or e l ≡ t
-first-remaining e t [] q = absurd (let z : ◌≡◌ {A = ℕ} 0 1 = cc in omega arith)
+first-remaining e t [] q = cc
 first-remaining e t (s ∷ l) q = cc
 
 pub first-among : (t : ℕ) (l : List ℕ) → onward l ≡ Some t → Memᴰ t l
-first-among t [] q = absurd (let z : ◌≡◌ {A = ℕ} 0 1 = cc in omega arith)
+first-among t [] q = cc
 first-among t (s ∷ l) q = let e : t ≡ s = cc in Memᴰ.head e
 
 module _ {r : Road} (G : Guaranteed r) where

@@ -1,5 +1,4 @@
 -- Where the joint is passed, the view is made anew; so it is the peg's own, and its row is written.
-use Rattle.road.specs.Held.{road_in}
 use Rattle.cursors.specs.View.{Viewed}
 use Rattle.stationing.specs.Routines.{overwritten}
 use Rattle.peg_list.specs.Pegs.{peg_at}
@@ -10,26 +9,26 @@ use Rattle.pegs.proofs.put_rows.Goals.{then-view-station, else-view-station}
 pub view_at-view-requires-clause-reached : goal.view_at-view-requires-clause-reached
 view_at-view-requires-clause-reached c = c.start.ensures 0
 
-pub loop-i-init : goal.loop-i-init
-loop-i-init c = writing_starts c.args.stations.now c.args.out.now c.view_at-view.ensures
+pub loop-station-init : goal.loop-station-init
+loop-station-init c = writing_starts c.args.stations.now c.args.out.now c.view_at-view.ensures
+
+pub returns : goal.returns
+returns c = let w = overwritten (writing_done c.loop-station.invariant c.loop-station-test.false) in record { value = w.0; out_after = w.1 }
 
 pub put_line-bytes-requires-clause-sound : goal.put_line-bytes-requires-clause-sound
 put_line-bytes-requires-clause-sound c =
-    let viewed : Viewed (road_in c.args.road.alignment) c.if-view-station.view (peg_at c.args.stations.now c.loop-i.i) =
+    let viewed : Viewed c.args.road.now c.if-view-station.view (peg_at c.args.stations.now c.loop-station.station-index) =
     elim c.if-view-station.branch [
       | then-view-station w ↦ rw w.view-is w.view_at-view-then-view-station.ensures
-      | else-view-station w ↦ rw w.view-is ((c.loop-i.invariant.serves c.loop-i-test.true).seen w.if-view-station.false)
+      | else-view-station w ↦ rw w.view-is ((c.loop-station.invariant.serves c.loop-station-test.true).seen w.if-view-station.false)
     ] in
-    (shown_there viewed (c.requires.good.within c.loop-i.i c.loop-i-test.true)).sound
+    (shown_there viewed (c.requires.good.within c.loop-station.station-index c.loop-station-test.true)).sound
 
-pub loop-i-preserved : goal.loop-i-preserved
-loop-i-preserved c =
-    let viewed : Viewed (road_in c.args.road.alignment) c.if-view-station.view (peg_at c.args.stations.now c.loop-i.i) =
+pub loop-station-preserved : goal.loop-station-preserved
+loop-station-preserved c =
+    let viewed : Viewed c.args.road.now c.if-view-station.view (peg_at c.args.stations.now c.loop-station.station-index) =
     elim c.if-view-station.branch [
       | then-view-station w ↦ rw w.view-is w.view_at-view-then-view-station.ensures
-      | else-view-station w ↦ rw w.view-is ((c.loop-i.invariant.serves c.loop-i-test.true).seen w.if-view-station.false)
+      | else-view-station w ↦ rw w.view-is ((c.loop-station.invariant.serves c.loop-station-test.true).seen w.if-view-station.false)
     ] in
-    writing_more c.loop-i.invariant c.requires.room c.requires.good c.loop-i-test.true viewed c.put_line-bytes.ensures.wrote c.put_line-bytes.ensures.most
-
-pub returns : goal.returns
-returns c = let w = overwritten (writing_done c.loop-i.invariant c.loop-i-test.false) in record { value = w.0; out_after = w.1 }
+    writing_more c.loop-station.invariant c.requires.room c.requires.good c.loop-station-test.true viewed c.put_line-bytes.ensures.wrote c.put_line-bytes.ensures.most
