@@ -1,3 +1,4 @@
 pub mod Going
 pub mod Next
 pub mod AllChunksLaws
+pub mod ToCome
