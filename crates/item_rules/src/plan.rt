@@ -43,14 +43,14 @@ fn is_long_straight(l: &Limits, e: &Element) -> bool
     e.is_straight() && l.straight_max != limits::NO_RULE && l.straight_max < e.length
 }
 
-// 9, of a straight and the radii of the arcs before it and after it
+// 9, of a straight and the arcs before it and after it
 #[tactic(auto, unfolding(road::specs::Rules::short_straight))]
-pub fn is_short_straight(l: &Limits, before: i32, e: &Element, after: i32) -> bool
-    ensures { result ≡ short_straight l.now before e.now after }
+pub fn is_short_straight(l: &Limits, before: &Element, e: &Element, after: &Element) -> bool
+    ensures { result ≡ short_straight l.now before.now.radius e.now after.now.radius }
 {
     e.is_straight()
         && l.straight_min != limits::NO_RULE
-        && clothoid::are_same_turn(before, after)
+        && clothoid::are_same_turn(before.radius, after.radius)
         && e.length < l.straight_min
 }
 

@@ -1,17 +1,10 @@
--- What the answers say.
-use Rattle.std.specs.Prelude.{ℕ, Option, None, Some}
+-- What the answer of the code says.
+use Rattle.std.specs.Prelude.{Result, Ok, Err}
+use Rattle.road.specs.Faults.{fault_number}
 use Rattle.road.specs.Rules.{Verdict, passes, breaks}
-use Rattle.rules.specs.declared.Found.{Found}
-use Rattle.rules.specs.declared.Found.TheVariants as found
-use Rattle.rules.specs.declared.Verdict.{Verdict as Told}
-use Rattle.rules.specs.declared.Verdict.TheVariants as told
-
--- the place of the first item that breaks a rule, or that there is none
-abbrev pub as_option : Found → Option ℕ
-as_option (found.At i) = Some i
-as_option found.Nothing = None
+use Rattle.road.specs.declared.refusal.Refusal.{Refusal}
 
 -- the refusal's number and its place, or that the road passes
-abbrev pub as_verdict : Told → Verdict
-as_verdict (told.Breaks n p) = breaks n p
-as_verdict told.Passes = passes
+abbrev pub as_verdict : Result (Unit {0}) Refusal → Verdict
+as_verdict (Ok _) = passes
+as_verdict (Err e) = breaks (fault_number e.fault) e.place

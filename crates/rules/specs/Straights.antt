@@ -1,5 +1,5 @@
 -- Refusal 9: the arcs before and after a straight, where the plan is in its order.
-use Rattle.std.specs.Prelude.{◌≡◌, refl, Bool, true, false, List, [], ◌∷◌, ℕ, zero, suc, ◌<◌, ◌≤◌, length, take, drop, get_or, if◌then◌else◌}
+use Rattle.std.specs.Prelude.{◌≡◌, refl, Bool, true, false, List, [], ◌∷◌, ℕ, zero, suc, ◌<◌, ◌≤◌, length, take, drop, get_or, ℤ, if◌then◌else◌}
 use Rattle.std.proofs.Common.{sym, ap, ◌∙◌, arith, take-suc, drop-cons}
 use Rattle.std.proofs.lemmas.List.{reverse-append}
 use Rattle.std.proofs.Math.Decide.{dec_lt}
@@ -60,12 +60,12 @@ module _ (r : Road) (order : PlanOrder r) (i : ℕ) (straight : Stands r Straigh
           let past : length r.plan ≤ suc (suc i) = omega arith in
           arc-past r.plan (suc i) none ∙ rw (get_or-eq_default r.plan blank_element none, get_or-eq_default r.plan blank_element past)
 
-pub straight-test : (l : Limits) (r : Road) → PlanOrder r → (i : ℕ) (before : Element) {e after : Element}
-    → i < length r.plan → before.radius ≡ arc_before r i → e ≡ element_of r i → after ≡ element_of r (suc (suc i))
-    → short_straight l before.radius e after.radius ≡ short_straight l (arc_before r i) (element_of r i) (arc_after r i)
+pub straight-test : (l : Limits) (r : Road) → PlanOrder r → (i : ℕ) {e : Element} {before after : ℤ}
+    → i < length r.plan → before ≡ arc_before r i → e ≡ element_of r i → after ≡ (element_of r (suc (suc i))).radius
+    → short_straight l before e after ≡ short_straight l (arc_before r i) (element_of r i) (arc_after r i)
 unfolding short_straight
-straight-test l r order i before {e} {after} h a b c = go (is_straight (element_of r i)) refl
+straight-test l r order i {e} {before} {after} h a b c = go (is_straight (element_of r i)) refl
   where
-    go : (t : Bool) → is_straight (element_of r i) ≡ t → short_straight l before.radius e after.radius ≡ short_straight l (arc_before r i) (element_of r i) (arc_after r i)
+    go : (t : Bool) → is_straight (element_of r i) ≡ t → short_straight l before e after ≡ short_straight l (arc_before r i) (element_of r i) (arc_after r i)
     go true t = rw (b, a, c, after_is r order i (record { within = h; is = is-straight-kind (element_of r i).kind t }))
     go false t = rw (b, t)

@@ -2,21 +2,27 @@
 
 #![tactic(auto)]
 
-ghost use Rattle.std.specs.Prelude.{◌≡◌, true, length};
+mod walks;
+
+ghost use Rattle.std.specs.Prelude.{◌≡◌, ◌≤◌, ◌<◌, ℕ, true, length};
+ghost use Rattle.std.specs.Iterator.{AlwaysYields, IsFinite};
 ghost use Rattle.road.specs.Base.{first_that};
 ghost use Rattle.road.specs.Exact.{tangent_start, total};
-ghost use Rattle.road.specs.Held.{road_in, Counted};
 ghost use Rattle.laws_of_acceptance.specs.PlanOrder.{PlanOrder};
 ghost use Rattle.laws_of_acceptance.specs.PointOrder.{PointOrder};
-ghost use Rattle.road.specs.Rules.{other_total, road_test, first_broken, judged};
+ghost use Rattle.road.specs.Rules.{first_broken, judged};
 ghost use Rattle.laws_of_acceptance.specs.Judging.{Tried};
 ghost use Rattle.road.specs.declared.Rule.TheVariants as ruled;
-ghost use Rattle.limits.specs.Row.{as_limits};
-ghost use Rattle.rules.specs.Judged.{as_option, as_verdict};
+ghost use Rattle.rules.specs.Judged.{as_verdict};
 ghost use Rattle.rules.specs.Kept.{PlanKept};
+ghost use Rattle.rules.specs.Walks.{items_at};
 
-use limits::Limits;
-use road::{Alignment, Crossfall, Element, ElementRule, PointRule, Rule, Tangent, TangentRule};
+use item_rules::ItemRule;
+use road::{
+    Alignment, Crossfall, Element, ElementRule, Fault, Limits, PointAmong, PointRule, Refusal,
+    Rule, Tangent, TangentAmong, TangentRule,
+};
+use walks::{Beside, Elements, item_or};
 
 // The rules in the order in which they are tried.
 pub const ORDER: [Rule; 16] = [
@@ -38,341 +44,201 @@ pub const ORDER: [Rule; 16] = [
     Rule::Superelevation,
 ];
 
-#[derive(Clone, Copy)]
-pub enum Found {
-    At(usize),
-    Nothing,
-}
-
-#[derive(Clone, Copy)]
-pub enum Verdict {
-    Breaks(u32, usize),
-    Passes,
-}
-
-// ---- sums
-
 // T.
-pub fn plan_length(a: Alignment) -> u64
-    requires { Counted a }
-    ensures { result ≡ total (road_in a) }
+pub fn plan_length(a: &Alignment) -> u64
+    ensures { result ≡ total a.now }
 {
-    let elements = a.elements;
-    let mut sum: u64 = 0;
-    let mut i: usize = 0;
-    while i < a.element_count {
-        let e = elements[i];
-        sum = sum + e.length as u64;
-        i = i + 1;
-    }
-    sum
+    a.elements().iter().map(|e| e.length as u64).sum()
 }
 
-fn profile_length(a: Alignment) -> u64
-    requires { Counted a }
-    ensures { result ≡ tangent_start (road_in a) (length (road_in a).tangents) }
+fn profile_length(a: &Alignment) -> u64
+    ensures { result ≡ tangent_start a.now (length a.now.tangents) }
 {
-    let tangents = a.tangents;
-    let mut sum: u64 = 0;
-    let mut i: usize = 0;
-    while i < a.tangent_count {
-        let t = tangents[i];
-        sum = sum + t.length as u64;
-        i = i + 1;
-    }
-    sum
+    a.tangents().iter().map(|t| t.length as u64).sum()
 }
 
-// ---- the first item of a list that breaks a rule; past the end of a list stands an item of zeros
-
-// 6
-fn other_total(a: Alignment, whole: u64) -> Found
-    requires counted { Counted a }
-    requires whole_is_total { whole ≡ total (road_in a) }
-    ensures { as_option result ≡ first_that (λ i. other_total (road_in a)) 1 }
+// The place of the first of a list's items that breaks a rule.
+fn first_broken<R: ItemRule + Copy, W: Iterator<Item = R::Item> + Drop>(
+    rule: R,
+    l: &Limits,
+    count: usize,
+    items: W,
+) -> Option<usize>
+where
+    R::Item: Drop,
+    requires count_fits { count < usize.MAX }
+    requires can { W.can_next items }
+    requires ends { IsFinite (W.remaining items) }
+    ensures { (item : ℕ → R.Item) (n : ℕ) → AlwaysYields W.next_gives (λ x. x) items (items_at item n) → (R.test rule).places count ≤ n → result ≡ first_that (λ i. (R.test rule).broken l.now (item i)) ((R.test rule).places count) }
 {
-    if profile_length(a) == whole {
-        Found::Nothing
-    } else {
-        Found::At(0)
-    }
+    items
+        .take(rule.places(count))
+        .position(|item| rule.is_broken(l, &item))
 }
 
-// Whether no element breaks a rule of the plan: most roads are passed once, and not once for each rule.
-fn is_plan_kept(a: Alignment, l: Limits) -> bool
-    requires { Counted a }
-    ensures { result ≡ true → PlanKept (as_limits l) (road_in a) }
-{
-    let elements = a.elements;
-    let blank = Element {
-        kind: 0,
-        length: 0,
-        radius: 0,
-    };
-    let mut e = blank;
-    if 0 < a.element_count {
-        e = elements[0];
-    }
-    let mut earlier = blank;
-    let mut before = blank;
-    let mut end: u64 = 0;
-    let mut i: usize = 0;
-    while i <= a.element_count {
-        let mut after = blank;
-        if i + 1 < a.element_count {
-            after = elements[i + 1];
-        }
-        end = end + e.length as u64;
-        if plan_rules::is_any_broken(l, i, a.element_count, end, earlier, before, e, after) {
-            return false;
-        }
-        earlier = before;
-        before = e;
-        e = after;
-        i = i + 1;
-    }
-    true
+// An alignment under the limits given, with its T, and whether it is known that no element breaks a rule of the plan.
+#[derive(Clone, Copy)]
+struct Judging<'a> {
+    alignment: &'a Alignment,
+    limits: &'a Limits,
+    whole: u64,
+    plan_kept: bool,
+    ghost whole_is_total: { whole ≡ total alignment.now },
+    ghost kept: { plan_kept ≡ true → PlanKept limits.now alignment.now },
 }
 
-fn first_element(a: Alignment, l: Limits, rule: ElementRule) -> Found
-    requires { Counted a }
-    ensures { as_option result ≡ first_broken (ruled.Element rule) (as_limits l) (road_in a) }
-{
-    let elements = a.elements;
-    let places = plan_rules::places_of(rule, a.element_count);
-    let blank = Element {
-        kind: 0,
-        length: 0,
-        radius: 0,
-    };
-    let mut e = blank;
-    if 0 < a.element_count {
-        e = elements[0];
-    }
-    let mut earlier = blank;
-    let mut before = blank;
-    let mut end: u64 = 0;
-    let mut i: usize = 0;
-    while i < places {
-        let mut after = blank;
-        if i + 1 < a.element_count {
-            after = elements[i + 1];
+impl<'a> Judging<'a> {
+    // Most roads keep the rules of the plan: their elements are passed once, and not once for each rule.
+    fn new(alignment: &'a Alignment, limits: &'a Limits) -> Self
+        ensures alignment { result.alignment.now ≡ alignment.entry.now }
+        ensures limits { result.limits.now ≡ limits.entry.now }
+    {
+        let plan_kept = !Elements::new(alignment).any(|e| item_rules::is_any_broken(limits, &e));
+        Judging {
+            alignment,
+            limits,
+            whole: plan_length(alignment),
+            plan_kept,
         }
-        end = end + e.length as u64;
-        if plan_rules::is_broken(rule, l, i, a.element_count, end, earlier, before, e, after) {
-            return Found::At(i);
-        }
-        earlier = before;
-        before = e;
-        e = after;
-        i = i + 1;
     }
-    Found::Nothing
-}
 
-// The same, where it is known whether the plan is kept.
-fn first_in_plan(a: Alignment, l: Limits, kept: bool, rule: ElementRule) -> Found
-    requires counted { Counted a }
-    requires order_kept { (kept ≡ true → PlanKept (as_limits l) (road_in a)) }
-    ensures { as_option result ≡ first_broken (ruled.Element rule) (as_limits l) (road_in a) }
-{
-    if kept {
-        Found::Nothing
-    } else {
-        first_element(a, l, rule)
+    // 5, 7, 23, 8, 10, 11 and 12
+    fn first_element(&self, rule: ElementRule) -> Option<usize>
+        ensures { result ≡ first_broken (ruled.Element rule) self.now.limits.now self.now.alignment.now }
+    {
+        if self.plan_kept {
+            return None;
+        }
+        let count = self.alignment.elements().len();
+        first_broken(rule, self.limits, count, Elements::new(self.alignment))
     }
-}
 
-// 9, where the kinds run as they must: the nearest arc after a straight is the second element from it
-fn first_straight(a: Alignment, l: Limits) -> Found
-    requires counted { Counted a }
-    requires order { PlanOrder (road_in a) }
-    ensures { as_option result ≡ first_broken ruled.ShortStraight (as_limits l) (road_in a) }
-{
-    let elements = a.elements;
-    let blank = Element {
-        kind: 0,
-        length: 0,
-        radius: 0,
-    };
-    let mut before = blank;
-    let mut i: usize = 0;
-    while i < a.element_count {
-        let e = elements[i];
-        let mut after = blank;
-        if i + 2 < a.element_count {
-            after = elements[i + 2];
-        }
-        if plan_rules::is_short_straight(l, before, e, after) {
-            return Found::At(i);
-        }
-        if e.kind == 1 {
-            before = e;
-        }
-        i = i + 1;
-    }
-    Found::Nothing
-}
-
-fn first_tangent(a: Alignment, l: Limits, rule: TangentRule) -> Found
-    requires { Counted a }
-    ensures { as_option result ≡ first_broken (ruled.Tangent rule) (as_limits l) (road_in a) }
-{
-    let tangents = a.tangents;
-    let places = profile_rules::places_of(rule, a.tangent_count);
-    let blank = Tangent {
-        length: 0,
-        grade: 0,
-        half: 0,
-    };
-    let mut before = blank;
-    let mut i: usize = 0;
-    while i < places {
-        let t = tangents[i];
-        let mut after = blank;
-        if i + 1 < a.tangent_count {
-            after = tangents[i + 1];
-        }
-        if profile_rules::is_broken(rule, l, before, t, after) {
-            return Found::At(i);
-        }
-        before = t;
-        i = i + 1;
-    }
-    Found::Nothing
-}
-
-fn first_point(a: Alignment, l: Limits, whole: u64, rule: PointRule) -> Found
-    requires counted { Counted a }
-    requires whole_is_total { whole ≡ total (road_in a) }
-    ensures { as_option result ≡ first_broken (ruled.Point rule) (as_limits l) (road_in a) }
-{
-    let head = a.head;
-    let crossfalls = a.crossfalls;
-    let places = crossfall_rules::places_of(rule, a.crossfall_count);
-    let blank = Crossfall {
-        station: 0,
-        left: 0,
-        right: 0,
-    };
-    let mut before = blank;
-    let mut place: usize = 0;
-    while place < places {
-        let p = crossfalls[place];
-        let mut after = blank;
-        if place + 1 < a.crossfall_count {
-            after = crossfalls[place + 1];
-        }
-        if crossfall_rules::is_broken(
-            rule,
-            l,
-            place,
-            a.crossfall_count,
-            whole,
-            head.ramp,
-            before,
-            p,
-            after,
-        ) {
-            return Found::At(place);
-        }
-        before = p;
-        place = place + 1;
-    }
-    Found::Nothing
-}
-
-// 19, where the points ascend: elements and pairs of points are passed together, each once
-fn first_arc(a: Alignment, l: Limits) -> Found
-    requires counted { Counted a }
-    requires order { PointOrder (road_in a) }
-    ensures { as_option result ≡ first_broken ruled.Superelevation (as_limits l) (road_in a) }
-{
-    let elements = a.elements;
-    let crossfalls = a.crossfalls;
-    let blank = Crossfall {
-        station: 0,
-        left: 0,
-        right: 0,
-    };
-    let mut p = blank;
-    if 0 < a.crossfall_count {
-        p = crossfalls[0];
-    }
-    let mut q = blank;
-    if 1 < a.crossfall_count {
-        q = crossfalls[1];
-    }
-    let mut low: u64 = 0;
-    let mut i: usize = 0;
-    let mut j: usize = 0;
-    while i < a.element_count {
-        let e = elements[i];
-        let high = low + e.length as u64;
-        if superelevation::is_wrong(l, e, low, high, p, q) {
-            return Found::At(i);
-        }
-        if (j + 2 < a.crossfall_count) & (q.station as u64 <= high) {
-            p = q;
-            q = crossfalls[j + 2];
-            j = j + 1;
+    // 6
+    fn other_total(&self) -> Option<usize>
+        ensures { result ≡ first_broken ruled.OtherTotal self.now.limits.now self.now.alignment.now }
+    {
+        if profile_length(self.alignment) == self.whole {
+            None
         } else {
-            low = high;
-            i = i + 1;
+            Some(0)
         }
     }
-    Found::Nothing
-}
 
-// ---- the rules in their order
-
-fn first_of(a: Alignment, l: Limits, whole: u64, kept: bool, rule: Rule) -> Found
-    requires counted { Counted a }
-    requires is_tried { Tried rule (as_limits l) (road_in a) }
-    requires order_kept { (kept ≡ true → PlanKept (as_limits l) (road_in a)) }
-    requires whole_is_total { whole ≡ total (road_in a) }
-    ensures { as_option result ≡ first_broken rule (as_limits l) (road_in a) }
-{
-    match rule {
-        Rule::Element(of) => first_in_plan(a, l, kept, of),
-        Rule::OtherTotal => other_total(a, whole),
-        Rule::ShortStraight => first_straight(a, l),
-        Rule::Tangent(of) => first_tangent(a, l, of),
-        Rule::Point(of) => first_point(a, l, whole, of),
-        Rule::Superelevation => first_arc(a, l),
+    // 9, where the kinds run as they must: the nearest arc after a straight is the second element from it
+    fn first_straight(&self) -> Option<usize>
+        requires { PlanOrder self.now.alignment.now }
+        ensures { result ≡ first_broken ruled.ShortStraight self.now.limits.now self.now.alignment.now }
+    {
+        let elements = self.alignment.elements();
+        let mut before = Element::BLANK;
+        for (i, e) in elements.iter().enumerate() {
+            let after = item_or(elements, i + 2, Element::BLANK);
+            if item_rules::is_short_straight(self.limits, &before, e, &after) {
+                return Some(i);
+            }
+            if e.is_arc() {
+                before = *e;
+            }
+        }
+        None
     }
-}
 
-fn number_of(rule: Rule) -> u32
-    ensures { result ≡ (road_test rule).number }
-{
-    match rule {
-        Rule::Element(of) => plan_rules::number_of(of),
-        Rule::OtherTotal => 6,
-        Rule::ShortStraight => 9,
-        Rule::Tangent(of) => profile_rules::number_of(of),
-        Rule::Point(of) => crossfall_rules::number_of(of),
-        Rule::Superelevation => 19,
+    // 13 to 15
+    fn first_tangent(&self, rule: TangentRule) -> Option<usize>
+        ensures { result ≡ first_broken (ruled.Tangent rule) self.now.limits.now self.now.alignment.now }
+    {
+        let tangents = self.alignment.tangents();
+        let items = Beside::new(tangents, Tangent::BLANK).map(|(
+            before,
+            tangent,
+            after,
+        )| TangentAmong {
+            before,
+            tangent,
+            after,
+        });
+        first_broken(rule, self.limits, tangents.len(), items)
+    }
+
+    // 16 to 18
+    fn first_point(&self, rule: PointRule) -> Option<usize>
+        ensures { result ≡ first_broken (ruled.Point rule) self.now.limits.now self.now.alignment.now }
+    {
+        let points = self.alignment.crossfalls();
+        let count = points.len();
+        let whole = self.whole;
+        let ramp = self.alignment.head().ramp;
+        let items = Beside::new(points, Crossfall::BLANK)
+            .enumerate()
+            .map(move |(place, (before, point, after))| PointAmong {
+                place,
+                count,
+                whole,
+                ramp,
+                before,
+                point,
+                after,
+            });
+        first_broken(rule, self.limits, count, items)
+    }
+
+    // 19, where the points ascend: elements and pairs of points are passed together, each once, by a loop over two places that no `for` counts
+    fn first_arc(&self) -> Option<usize>
+        requires { PointOrder self.now.alignment.now }
+        ensures { result ≡ first_broken ruled.Superelevation self.now.limits.now self.now.alignment.now }
+    {
+        let elements = self.alignment.elements();
+        let points = self.alignment.crossfalls();
+        let mut low: u64 = 0;
+        let mut i: usize = 0;
+        let mut j: usize = 0;
+        while i < elements.len() {
+            let e = &elements[i];
+            let p = item_or(points, j, Crossfall::BLANK);
+            let q = item_or(points, j + 1, Crossfall::BLANK);
+            let high = low + e.length as u64;
+            if superelevation::is_wrong(self.limits, e, low, high, &p, &q) {
+                return Some(i);
+            }
+            // to the next pair of points, if it begins before the element ends, else to the next element
+            if j + 2 < points.len() && q.station as u64 <= high {
+                j += 1;
+            } else {
+                low = high;
+                i += 1;
+            }
+        }
+        None
+    }
+
+    // The place of the first item that breaks a rule, where the rules before it are kept.
+    fn first_of(&self, rule: Rule) -> Option<usize>
+        requires { Tried rule self.now.limits.now self.now.alignment.now }
+        ensures { result ≡ first_broken rule self.now.limits.now self.now.alignment.now }
+    {
+        match rule {
+            Rule::Element(of) => self.first_element(of),
+            Rule::OtherTotal => self.other_total(),
+            Rule::ShortStraight => self.first_straight(),
+            Rule::Tangent(of) => self.first_tangent(of),
+            Rule::Point(of) => self.first_point(of),
+            Rule::Superelevation => self.first_arc(),
+        }
     }
 }
 
 // What the rules say of a road under given limits.
-pub fn judge(a: Alignment, l: Limits) -> Verdict
-    requires { Counted a }
-    ensures { as_verdict result ≡ judged (as_limits l) (road_in a) }
+pub fn judge(a: &Alignment, l: &Limits) -> Result<(), Refusal>
+    ensures { as_verdict result ≡ judged l.now a.now }
 {
-    let whole = plan_length(a);
-    let kept = is_plan_kept(a, l);
-    let mut k: usize = 0;
-    while k < 16 {
-        let rule = ORDER[k];
-        match first_of(a, l, whole, kept, rule) {
-            Found::At(place) => {
-                return Verdict::Breaks(number_of(rule), place);
-            }
-            Found::Nothing => {}
+    let judging = Judging::new(a, l);
+    for rule in &ORDER {
+        if let Some(place) = judging.first_of(*rule) {
+            return Err(Refusal {
+                fault: Fault::Broken(*rule),
+                place,
+            });
         }
-        k = k + 1;
     }
-    Verdict::Passes
+    Ok(())
 }

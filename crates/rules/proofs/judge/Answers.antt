@@ -1,26 +1,19 @@
--- One place of the order after another; the rules before it are kept.
-use Rattle.std.specs.Prelude.{ℕ}
-use Rattle.std.proofs.Common.{sym, ap, ◌∙◌}
-use Rattle.road.specs.Rules.{breaks}
-use Rattle.rules.specs.Judged.{as_option}
+-- One rule of the order after another; those before it are kept.
+use Rattle.std.proofs.Common.{sym, ◌∙◌}
 use Rattle.rules.specs.Trying.{trying_start, tried, trying_stop, trying_on, trying_end}
 use Rattle.rules.proofs.judge.Goals as goal
 
+pub loop-rule-init : goal.loop-rule-init
+loop-rule-init c = trying_start
+
 pub first_of-requires : goal.first_of-requires
-first_of-requires c = record { counted = c.requires; is_tried = tried c.loop-k.invariant c.loop-k-test.true; order_kept = c.is_plan_kept-kept.ensures; whole_is_total = c.plan_length-whole.ensures }
+first_of-requires c = tried c.loop-rule.invariant c.loop-rule-test.true
 
-pub returns-in-At : goal.returns-in-At
-returns-in-At c =
-    let v = c.loop-k in
-    ap (λ (n : ℕ). breaks n c.in-At.place) c.number_of.ensures
-    ∙ trying_stop v.invariant c.loop-k-test.true (sym c.first_of.ensures ∙ ap as_option c.in-At.is)
+pub returns-in-Some : goal.returns-in-Some
+returns-in-Some c = rw (sym c.new-judging.ensures.alignment, sym c.new-judging.ensures.limits) (trying_stop c.loop-rule.invariant c.loop-rule-test.true (sym c.first_of.ensures ∙ c.in-Some.is))
 
-pub loop-k-preserved : goal.loop-k-preserved
-loop-k-preserved c =
-    trying_on c.loop-k.invariant c.loop-k-test.true (sym c.first_of.ensures ∙ ap as_option c.in-Nothing.is)
-
-pub loop-k-init : goal.loop-k-init
-loop-k-init c = trying_start
+pub loop-rule-preserved : goal.loop-rule-preserved
+loop-rule-preserved c = trying_on c.loop-rule.invariant c.loop-rule-test.true (sym c.first_of.ensures ∙ c.in_default.is)
 
 pub returns : goal.returns
-returns c = trying_end c.loop-k.invariant c.loop-k-test.false
+returns c = rw (sym c.new-judging.ensures.alignment, sym c.new-judging.ensures.limits) (trying_end c.loop-rule.invariant c.loop-rule-test.false)

@@ -1,12 +1,10 @@
-use Rattle.std.proofs.Common.{arith, rules}
-use Rattle.laws_of_acceptance.specs.Lists.{unmapped, element_sums_start, element_sums, element_sums_end}
+use Rattle.std.proofs.Common.{◌≡◌, ◌∙◌, rules}
+use Rattle.std.specs.List.{sum_by}
+use Rattle.road.specs.declared.Element.{Element}
+use Rattle.rules.specs.Totals.{total-is}
 use Rattle.rules.proofs.plan_length.Goals as goal
 
-pub loop-i-init : goal.loop-i-init
-loop-i-init c = element_sums_start c.args.a c.requires
-
-pub loop-i-preserved : goal.loop-i-preserved
-loop-i-preserved c = element_sums c.args.a c.loop-i.invariant c.loop-i-test.true (omega arith)
-
 pub returns : goal.returns
-returns c = element_sums_end c.args.a c.requires c.loop-i.invariant c.loop-i-test.false (search (rules, unmapped))
+returns c =
+    let e : c.sum.result ≡ sum_by (λ (e : Element). e.length) c.elements.result.now = search rules in
+    e ∙ total-is c.args.a.now c.elements.ensures.items
