@@ -2,61 +2,23 @@
 
 #![tactic(auto)]
 
-ghost use Rattle.std.specs.Prelude.{◌≡◌, ◌≤◌, length};
-ghost use Rattle.cases.specs.Cases.{item_at, part_at, within};
+ghost use Rattle.std.specs.Prelude.{◌≡◌, ◌<◌, length, option_map, IfSome, ℕ, List};
+ghost use Rattle.cases.specs.Cases.{first_number, first_part};
 
-use file_numbers::Number;
-
-// A number of the input and the place after it; 0 and the input's end where there is none.
-#[derive(Clone, Copy)]
-pub struct Item {
-    pub value: u64,
-    pub next: usize,
-}
-
-pub fn item_at(input: &[u8], at: usize) -> Item
-    ensures { result ≡ item_at input.now at }
+// The number at the front of an input, and the bytes behind it.
+pub fn split_number(input: &[u8]) -> Option<(u32, &[u8])>
+    ensures split { option_map (λ p. (p.0, p.1.now)) result ≡ first_number input.now }
+    ensures shorter { IfSome result (λ p. length p.1.now < length input.now) }
 {
-    match reader::number_at(input, at) {
-        Number::Value(v, next) => Item {
-            value: v as u64,
-            next,
-        },
-        Number::Faulty => Item {
-            value: 0,
-            next: input.len(),
-        },
-    }
+    let n = file_numbers::read_number(input, 0)?;
+    Some((n.value, &input[n.next..]))
 }
 
-// Where a part of the input begins and ends.
-#[derive(Clone, Copy)]
-pub struct Part {
-    pub from: usize,
-    pub end: usize,
-}
-
-// So many bytes from a place on, as far as an input of that length goes.
-fn within(end: usize, from: usize, count: u64) -> Part
-    ensures { result ≡ within end from count }
+// The part at the front of an input, after its length and as far as the input goes, and the bytes behind it.
+pub fn split_part(input: &[u8]) -> Option<(&[u8], &[u8])>
+    ensures split { option_map (λ p. (p.0.now, p.1.now)) result ≡ first_part input.now }
+    ensures shorter { IfSome result (λ p. length p.1.now < length input.now) }
 {
-    if end < from {
-        return Part { from: end, end };
-    }
-    if ((end - from) as u64) < count {
-        return Part { from, end };
-    }
-    Part {
-        from,
-        end: from + count as usize,
-    }
-}
-
-// The part that stands at a place after its length, as far as the input goes.
-pub fn part_at(input: &[u8], at: usize) -> Part
-    ensures value { result ≡ part_at input.now at }
-    ensures from_le_end { (result.from ≤ result.end) × (result.end ≤ length input.now) }
-{
-    let count = item_at(input, at);
-    within(input.len(), count.next, count.value)
+    let (length, rest) = split_number(input)?;
+    Some(rest.split_at(rest.len().min(length as usize)))
 }

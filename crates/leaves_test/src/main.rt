@@ -2,7 +2,7 @@
 
 #![tactic(auto)]
 
-use file_numbers::Number;
+use reader::Reader;
 
 // A number on a line of its own.
 fn show(rt: &impl Print, v: i64) {
@@ -17,28 +17,23 @@ fn show_size(rt: &impl Print, n: u64) {
     let _ = println!(rt; "{n}");
 }
 
-fn wide(v: i32) -> i64 {
-    v as i64
-}
-
 // The number at the front of some bytes, and the place after it, or that there is none.
 fn show_number(rt: &impl Print, bytes: &[u8]) {
-    match reader::number_at(bytes, 0) {
-        Number::Value(v, next) => {
-            let _ = println!(rt; "{v} {next}");
+    let mut reader = Reader::new(bytes);
+    let _ = match reader.number() {
+        Some(v) => {
+            let next = reader.place();
+            println!(rt; "{v} {next}")
         }
-        Number::Faulty => {
-            let _ = println!(rt; "faulty");
-        }
-    }
+        None => println!(rt; "faulty"),
+    };
 }
 
 // "300 is AC 02 hexadecimal; 80 00 is refused"; the empty file; the greatest number, and one more.
 fn numbers(rt: &impl Print) {
     show_number(rt, &[0xAC, 0x02]);
     show_number(rt, &[0x80, 0x00]);
-    let nothing = [0u8; 1];
-    show_number(rt, &nothing[..0]);
+    show_number(rt, &[]);
     show_number(rt, &[0xFF, 0xFF, 0xFF, 0xFF, 0x0F]);
     show_number(rt, &[0x80, 0x80, 0x80, 0x80, 0x10]);
     show_number(rt, &[0x80]);
@@ -46,13 +41,13 @@ fn numbers(rt: &impl Print) {
 
 // Signed values: −25,000 is written as 49,999.
 fn signed_values(rt: &impl Print) {
-    show(rt, wide(file_numbers::signed_of(49999)));
-    show(rt, file_numbers::written_as(-25000) as i64);
-    show(rt, wide(file_numbers::signed_of(4294967295)));
-    show(rt, file_numbers::byte_count(0) as i64);
-    show(rt, file_numbers::byte_count(127) as i64);
-    show(rt, file_numbers::byte_count(128) as i64);
-    show(rt, file_numbers::byte_count(4294967295) as i64);
+    show(rt, i64::from(file_numbers::signed_of(49999)));
+    show(rt, i64::from(file_numbers::written_as(-25000)));
+    show(rt, i64::from(file_numbers::signed_of(4294967295)));
+    show(rt, i64::from(file_numbers::byte_count(0)));
+    show(rt, i64::from(file_numbers::byte_count(127)));
+    show(rt, i64::from(file_numbers::byte_count(128)));
+    show(rt, i64::from(file_numbers::byte_count(4294967295)));
 }
 
 // "Truncating negative drops towards zero: −68.75 becomes −68"; exact halves go away from zero.
