@@ -23,6 +23,10 @@ pub record Viewed (r : Road) (v : View) (x : ℕ) : Type 0 where
   pub between : (z : ℕ) → Memᴰ z (listed r) → x < z → z < v.joint → z % r.head.step ≡ 0
   pub listed : v.joint ≤ total r → Memᴰ v.joint (listed r)
 
+-- at the station itself
+pub viewed-shows : {r : Road} {v : View} {x : ℕ} → Viewed r v x → x ≤ total r → Shows r v.segment x
+viewed-shows {x = x} s h = s.shows x (omega arith) s.beyond h
+
 -- the same at a later station before the joint
 pub viewed_later : {r : Road} {v : View} {x y : ℕ} → Viewed r v x → x ≤ y → y < v.joint → Viewed r v y
 viewed_later s l h = record {

@@ -12,7 +12,7 @@ use Rattle.road.specs.Exact.{total}
 use Rattle.segment.specs.Segment.{Shows, line_in}
 use Rattle.segment.proofs.LineLaws.{line-shows}
 use Rattle.cursors.specs.Places.{PlaceReached}
-use Rattle.cursors.specs.View.{Viewed, viewed_later}
+use Rattle.cursors.specs.View.{Viewed, viewed-shows, viewed_later}
 use Rattle.cursors.specs.declared.View.{View}
 use Rattle.peg_list.specs.Pegs.{peg_at, lines}
 use Rattle.peg_list.specs.Search.{Good}
@@ -25,10 +25,6 @@ pub record Serves (r : Road) (v : View) (x : ℕ) : Type 0 where
 
 serves_later : {r : Road} {v : View} {x y : ℕ} → Viewed r v x → x ≤ y → Serves r v y
 serves_later s l = record { place = s.place _ l; seen = λ h. viewed_later s l h }
-
--- the segment of a view shows the road at its station
-pub shown_there : {r : Road} {v : View} {x : ℕ} → Viewed r v x → x ≤ total r → Shows r v.segment x
-shown_there {x = x} s h = s.shows x (omega arith) s.beyond h
 
 -- z became y: the rows of the first i pegs were written up to `bytes`, and the view serves the next one
 pub record Writing (r : Road) (pegs z y : List ℕ) (v : View) (bytes i : ℕ) : Type 0 where
@@ -56,7 +52,7 @@ module _ {r : Road} {pegs z y : List ℕ} {v : View} {bytes i : ℕ} (w : Writin
     within = omega arith;
     wrote =
         subst (λ (x : List ℕ). Wrote z y' 0 x bytes') (sym (one_line r pegs i h))
-        (wrote-append w.wrote (subst (λ (x : List ℕ). Wrote y y' bytes x bytes') (line-shows (shown_there s (good.within i h))) t) written-fits);
+        (wrote-append w.wrote (subst (λ (x : List ℕ). Wrote y y' bytes x bytes') (line-shows (viewed-shows s (good.within i h))) t) written-fits);
     room = omega (arith, w.room);
     serves = λ l. serves_later s (rw (add-one i) (good.rises i (omega arith)));
   }

@@ -10,7 +10,7 @@ use Rattle.road.specs.Listed.{listed}
 use Rattle.laws_of_acceptance.specs.Guaranteed.{Guaranteed}
 use Rattle.segment.specs.Segment.{Shows}
 use Rattle.cursors.specs.Places.{PlaceReached}
-use Rattle.cursors.specs.View.{Viewed, viewed_later, multiple-listed}
+use Rattle.cursors.specs.View.{Viewed, viewed-shows, viewed_later, multiple-listed}
 use Rattle.walk.specs.FittingRows.{not_below}
 use Rattle.walk.specs.NotBelow.{from-same, from_first}
 use Rattle.walk.specs.Inside.{listed-ascends}
@@ -34,7 +34,7 @@ pub record Entered (r : Road) (x : ℕ) (w : Walk) : Type 0 where
 
 -- the segment shows the road where the walk stands
 pub shown_here : {r : Road} {w : Walk} → Stands r w → w.station < w.view.joint → Shows r w.view.segment w.station
-shown_here {r} {w} s h = (s.seen h).shows w.station (omega arith) h (omega (arith, (s.seen h).end))
+shown_here s h = viewed-shows (s.seen h) (omega (arith, (s.seen h).end))
 
 -- one station on
 abbrev pub moved : (step : ℕ) → Walk → Walk

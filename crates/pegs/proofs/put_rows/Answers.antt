@@ -1,8 +1,8 @@
 -- Where the joint is passed, the view is made anew; so it is the peg's own, and its row is written.
-use Rattle.cursors.specs.View.{Viewed}
+use Rattle.cursors.specs.View.{Viewed, viewed-shows}
 use Rattle.stationing.specs.Routines.{overwritten}
 use Rattle.peg_list.specs.Pegs.{peg_at}
-use Rattle.pegs.proofs.Writing.{writing_starts, writing_more, writing_done, shown_there}
+use Rattle.pegs.proofs.Writing.{writing_starts, writing_more, writing_done}
 use Rattle.pegs.proofs.put_rows.Goals as goal
 use Rattle.pegs.proofs.put_rows.Goals.{then-view-station, else-view-station}
 
@@ -22,7 +22,7 @@ put_line-bytes-requires-clause-sound c =
       | then-view-station w ↦ rw w.view-is w.view_at-view-then-view-station.ensures
       | else-view-station w ↦ rw w.view-is ((c.loop-station.invariant.serves c.loop-station-test.true).seen w.if-view-station.false)
     ] in
-    (shown_there viewed (c.requires.good.within c.loop-station.station-index c.loop-station-test.true)).sound
+    (viewed-shows viewed (c.requires.good.within c.loop-station.station-index c.loop-station-test.true)).sound
 
 pub loop-station-preserved : goal.loop-station-preserved
 loop-station-preserved c =

@@ -5,7 +5,7 @@ use Rattle.road.specs.Exact.{total}
 use Rattle.road.specs.Machine.{overwrite}
 use Rattle.segment.specs.Segment.{Shows}
 use Rattle.segment.proofs.LineLaws.{line-shows}
-use Rattle.cursors.specs.View.{Viewed}
+use Rattle.cursors.specs.View.{viewed-shows}
 use Rattle.cursors.specs.declared.View.{View}
 use Rattle.stationing.specs.Routines.{overwritten}
 use Rattle.stationing.proofs.put_row.Goals as goal
@@ -13,15 +13,11 @@ use Rattle.stationing.proofs.put_row.Goals as goal
 pub view_at-view-requires-clause-reached : goal.view_at-view-requires-clause-reached
 view_at-view-requires-clause-reached c = c.start.ensures c.args.station
 
--- the segment of a view says what the exact road says at its station
-shown : {r : Road} {v : View} (s : ℕ) → Viewed r v s → s ≤ total r → Shows r v.segment s
-shown s v h = v.shows s (omega arith) v.beyond h
-
 pub put_line-requires-clause-sound : goal.put_line-requires-clause-sound
-put_line-requires-clause-sound c = (shown c.args.station c.view_at-view.ensures c.requires.on_road).sound
+put_line-requires-clause-sound c = (viewed-shows c.view_at-view.ensures c.requires.on_road).sound
 
 pub returns : goal.returns
 returns c =
-    let e = line-shows (shown c.args.station c.view_at-view.ensures c.requires.on_road) in
+    let e = line-shows (viewed-shows c.view_at-view.ensures c.requires.on_road) in
     let w = overwritten c.put_line.ensures.wrote in
     record { value = w.0 ∙ ap length e; line_after = w.1 ∙ ap (λ (l : List ℕ). overwrite l c.args.line.now) e }
