@@ -1,9 +1,9 @@
 -- Laws of masks and shifts, and of the groups that a reading has seen so far. Assumes nothing.
 use mathlib.Core.Path.{◌≡◌, refl, sym, ap, ap₂, ◌∙◌, subst}
 use mathlib.Core.List.{List}
-use mathlib.Core.Bool.{Bool, true, false, not, ◌&&◌}
+use mathlib.Core.Bool.{Bool, true, false, ◌&&◌}
 use Rattle.std.specs.Prelude.{Option, None, Some, option_map, if◌then◌else◌, slice_range}
-use Prim.Native.Nat.{ℕ, suc, ◌+◌, ◌-◌, ◌*◌, ◌/◌, ◌%◌, ◌^◌, ◌≤◌, ◌<◌}
+use Prim.Native.Nat.{ℕ, suc, ◌+◌, ◌-◌, ◌*◌, ◌%◌, ◌^◌, ◌≤◌, ◌<◌}
 use native.Mathlib.Nat.{add-mul, mul_assoc, mul_comm}
 use native.Mathlib.Numerals.{add-one}
 use native.Mathlib.Omega.{arith}
@@ -12,9 +12,9 @@ use Rattle.std.proofs.lemmas.List.{take_all, length-drop}
 use lib.Seq.{drop-cons}
 use lib.Arith.{digits_lt}
 use lib.Pow.{shl_exact, pow-add}
-use lib.Bits.{bit_and, bit_or, and_high, or_shifted_r}
+use lib.Bits.{bit_or, or_shifted_r}
 use lib.Dec.{leb, eqb}
-use borrow.Author.Tests.{leb-true, leb-false, eq-eqb, ne_eqb}
+use borrow.Author.Tests.{leb-true, leb-false, ne_eqb}
 use Rattle.file_numbers.specs.Reading.{got, refused}
 use Rattle.file_numbers.specs.Number.{byte_count, greatest, Groups, lowest, groups, sound, checked_from, number_from, number}
 use Rattle.file_numbers.specs.Bits.{byte_count_most}
@@ -22,17 +22,6 @@ use Rattle.file_numbers.specs.Shape.{grouped, groups-last, groups-more, SomeGrou
 use Rattle.file_numbers.specs.Meaning.{meaning}
 use Rattle.file_numbers.specs.Answer.{answer}
 use Rattle.file_numbers.specs.declared.Number.{Number}
-
--- the top bit of a byte
-top_bit : (b : ℕ) → b < 256 → bit_and b 128 ≡ b / 128 * 128
-top_bit b h = and_high b 1 7 ∙ omega arith
-
-pub continues_is : (b : ℕ) → b < 256 → not (eqb (bit_and b 128) 0) ≡ leb 128 b
-continues_is b h = go (leb 128 b) refl
-  where
-    go : (t : Bool) → leb 128 b ≡ t → not (eqb (bit_and b 128) 0) ≡ leb 128 b
-    go true e = ap not (ne_eqb (bit_and b 128) 0 (λ z. omega (arith, z, top_bit b h, leb-true 128 b e))) ∙ sym e
-    go false e = ap not (eq-eqb (bit_and b 128) 0 (omega (arith, top_bit b h, leb-false 128 b e))) ∙ sym e
 
 -- a group of j bits above the k bits of v, at every width w with room for both
 pub joined_is : (j k w v g : ℕ) → v < 2 ^ k → g < 2 ^ j → j + k ≤ w → bit_or v ((g * 2 ^ k) % 2 ^ w) ≡ g * 2 ^ k + v
@@ -119,8 +108,8 @@ module _ (s : List ℕ) (at : ℕ) (bytes : List ℕ) (is : bytes ≡ slice_rang
       let from : drop at s ≡ bytes = sym (is ∙ take_all (length s - at) (drop at s) (omega (arith, length-drop at s))) in
       ap (λ (l : List ℕ). number_from (groups l) at) from ∙ ap (λ (q : Option Groups). number_from q at) (so_far ∙ ap (after count value) e)
 
-  pub breaks-off : (r : Option Number) → r ≡ None → length bytes ≤ count → meaning r at ≡ number s at
-  breaks-off r e h = ap (λ (n : Option Number). meaning n at) e ∙ sym (from-rest None (groups_none bytes count h))
+  pub breaks_off : (r : Option Number) → r ≡ None → length bytes ≤ count → meaning r at ≡ number s at
+  breaks_off r e h = ap (λ (n : Option Number). meaning n at) e ∙ sym (from-rest None (groups_none bytes count h))
 
   pub too_many_groups : count ≡ 5 → refused 2 at ≡ number s at
   too_many_groups e =
@@ -145,6 +134,6 @@ module _ (s : List ℕ) (at : ℕ) (bytes : List ℕ) (is : bytes ≡ slice_rang
         ∙ ap (λ (x : ℕ). after (count + 1) x (groups (drop (count + 1) bytes))) (sym joined)
 
 -- no number stands behind the last byte
-pub behind-the-end : (s : List ℕ) (at : ℕ) (r : Option Number) → r ≡ None → length s ≤ at → meaning r at ≡ number s at
+pub behind_the_end : (s : List ℕ) (at : ℕ) (r : Option Number) → r ≡ None → length s ≤ at → meaning r at ≡ number s at
 unfolding number
-behind-the-end s at r e h = ap (λ (n : Option Number). meaning n at) e ∙ ap (λ (q : Option Groups). number_from q at) (sym (groups_none s at h))
+behind_the_end s at r e h = ap (λ (n : Option Number). meaning n at) e ∙ ap (λ (q : Option Groups). number_from q at) (sym (groups_none s at h))

