@@ -3,7 +3,8 @@ use Rattle.std.specs.Prelude.{ℕ, ◌+◌, ◌≡◌, refl, List, [], ◌∷◌
 use Rattle.file_numbers.specs.Number.{written}
 use Rattle.road.specs.Compute.{computed}
 use Rattle.road.specs.Starred.{at40, road_file, slope, even, straight_road, tilted_bend, bend_road, vertex_road}
-use Rattle.speed_marks.specs.Marks.{stands, set_of, marks, Marked, turned_away, marked, marks_answer}
+use Rattle.road.specs.Faults.{Said, value, refusal}
+use Rattle.speed_marks.specs.Marks.{stands, set_of, marks, marks_answer}
 
 -- ---- classes and terrains, with a contract or without
 
@@ -58,15 +59,15 @@ unequal = road_file at40 5000 (1 ∷ 0 ∷ 1000 ∷ []) (slope 999 (pos 0)) (eve
 
 pub record Row : Type 0 where
   pub file : List ℕ
-  pub answer : Marked
+  pub answer : Said ℕ
 
 infix 70 ◌has◌
 abbrev ◌has◌ : List ℕ → ℕ → Row
-f has set = record { file = f; answer = marked set }
+f has set = record { file = f; answer = value set }
 
 infix 70 ◌refuses◌at◌
 abbrev ◌refuses◌at◌ : List ℕ → (number place : ℕ) → Row
-f refuses n at p = record { file = f; answer = turned_away n p }
+f refuses n at p = record { file = f; answer = refusal n p }
 
 abbrev pub at_speeds : List Row
 at_speeds =

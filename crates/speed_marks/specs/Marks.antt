@@ -2,11 +2,10 @@
 use Rattle.std.specs.Prelude.{ℕ, ◌+◌, ◌*◌, Bool, true, false, List, [], ◌∷◌, map, if◌then◌else◌}
 use Rattle.file_numbers.specs.Reading.{Got, got, refused}
 use Rattle.road.specs.File.{Road, read}
+use Rattle.road.specs.Faults.{Said, value, refusal}
 use Rattle.road.specs.Limits.{limits_at}
 use Rattle.road.specs.declared.Limits.{Limits}
 use Rattle.road.specs.Rules.{Verdict, passes, breaks, judged}
-use Rattle.speed_marks.specs.declared.MarksAnswer.{MarksAnswer}
-use Rattle.speed_marks.specs.declared.MarksAnswer.TheVariants as answer
 
 -- "Designers try a road at seven speeds": those of the rule book's rows, in km/h
 abbrev pub tried_speeds : List ℕ
@@ -37,20 +36,10 @@ set_of (mark ∷ later) = bit mark + 2 * set_of later
 unfoldable pub marks : Road → ℕ
 marks r = set_of (map (stands r) tried_speeds)
 
--- the paper's answers: a refusal with its place, or the set of marks
-pub data Marked : Type 0 where
-  turned_away : (number place : ℕ) → Marked
-  marked : (set : ℕ) → Marked
-
--- what each case of the code's enum stands for
-abbrev pub of_marks : MarksAnswer → Marked
-of_marks (answer.Refused n p) = turned_away n p
-of_marks (answer.Marks set) = marked set
-
 -- "A file that 1 to 4 or 22 turn away gets that refusal."
-abbrev pub marks_on : Got Road → Marked
-marks_on (refused n p) = turned_away n p
-marks_on (got r _) = marked (marks r)
+abbrev pub marks_on : Got Road → Said ℕ
+marks_on (refused n p) = refusal n p
+marks_on (got r _) = value (marks r)
 
-unfoldable pub marks_answer : List ℕ → Marked
+unfoldable pub marks_answer : List ℕ → Said ℕ
 marks_answer f = marks_on (read f)

@@ -3,6 +3,7 @@ use Rattle.std.specs.Prelude.{◌≡◌, refl, ◌↔◌, ℕ, zero, suc, ◌+�
 use Rattle.std.proofs.Common.{sym, ap, ◌∙◌, arith, ltb→lt, eqb→eq}
 use Rattle.file_numbers.specs.Reading.{Got, got, refused}
 use Rattle.road.specs.File.{Road, read}
+use Rattle.road.specs.Faults.{refusal}
 use Rattle.road.specs.Limits.{speeds, class_row, terrain_column, speed, limits_of, limits}
 use Rattle.road.specs.declared.Class.{Class}
 use Rattle.road.specs.declared.Class.TheVariants.{LongDistance, Connecting, Collecting, Access}
@@ -16,7 +17,7 @@ use Rattle.laws_of_lists.specs.Each.{each_below}
 use Rattle.laws_of_lists.specs.Tests.{and_T}
 use Rattle.laws_of_acceptance.specs.Judging.{Keeps, rule_at, passes_kept, kept-passes, kept_by_name}
 use Rattle.laws_of_acceptance.specs.Refusals.{accepted_iff}
-use Rattle.speed_marks.specs.Marks.{tried_speeds, limits_with, is_passed, stands, marks, turned_away, marks_on, marks_answer}
+use Rattle.speed_marks.specs.Marks.{tried_speeds, limits_with, is_passed, stands, marks, marks_on, marks_answer}
 use Rattle.speed_marks.specs.Sets.{has_bit, set_below, set-bit}
 
 -- ---- the speed of a bit
@@ -119,10 +120,10 @@ own_mark_lem f r end = (there, back)
 -- ---- the refusals
 
 -- "A file that 1 to 4 or 22 turn away gets that refusal", and no other file
-pub refused_iff : (f : List ℕ) (n p : ℕ) → (marks_answer f ≡ turned_away n p) ↔ (read f ≡ refused n p)
+pub refused_iff : (f : List ℕ) (n p : ℕ) → (marks_answer f ≡ refusal n p) ↔ (read f ≡ refused n p)
 unfolding marks_answer
 refused_iff f n p = (go (read f) refl, ap marks_on)
   where
-    go : (g : Got Road) → read f ≡ g → marks_on g ≡ turned_away n p → read f ≡ refused n p
-    go (got r end) e h = let z : ◌≡◌ {A = ℕ} 0 1 = cc in absurd (omega arith)
-    go (refused m q) e h = let k : m ≡ n = cc in let l : q ≡ p = cc in cc
+    go : (g : Got Road) → read f ≡ g → marks_on g ≡ refusal n p → read f ≡ refused n p
+    go (got r end) e h = absurd cc
+    go (refused m q) e h = cc

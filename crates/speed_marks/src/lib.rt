@@ -3,60 +3,38 @@
 #![tactic(auto)]
 
 ghost use Rattle.std.specs.Prelude.{◌≡◌};
-ghost use Rattle.road.specs.Held.{road_in, Counted};
-ghost use Rattle.speed_marks.specs.Marks.{stands, bit, marks, of_marks, marks_answer};
+ghost use Rattle.road.specs.Faults.{of_result};
+ghost use Rattle.speed_marks.specs.Marks.{stands, marks, marks_answer};
 
-use fields::End;
-use road::Alignment;
-use rules::Verdict;
+use road::{Alignment, Refusal};
 
 // The speeds in km/h, in the order of the marks.
 pub const SPEEDS: [u32; 7] = [40, 50, 60, 70, 80, 90, 100];
 
-// A refusal and its place, or the seven marks, 40 km/h in the lowest bit.
-#[derive(Clone, Copy)]
-pub enum MarksAnswer {
-    Refused(u32, usize),
-    Marks(u32),
+// Whether a road passes at a speed.
+#[tactic(auto, unfolding(crate::specs::Marks::stands))]
+fn passes(a: &Alignment, speed: u32) -> bool
+    ensures { result ≡ stands a.now speed }
+{
+    let limits = limits::limits_at(speed, a.head().contract);
+    rules::judge(a, &limits).is_ok()
 }
 
-// 1 where a road passes at a speed, else 0.
-fn mark_at(a: Alignment, speed: u32) -> u32
-    requires { Counted a }
-    ensures { result ≡ bit (stands (road_in a) speed) }
+// The marks of a road, 40 km/h in the lowest bit.
+fn marks_of(a: &Alignment) -> u32
+    ensures { result ≡ marks a.now }
 {
-    let head = a.head;
-    let contract = head.contract;
-    match rules::judge(a, limits::limits_at(speed, contract)) {
-        Verdict::Passes => 1,
-        Verdict::Breaks(_, _) => 0,
-    }
-}
-
-// The marks of a road, the highest speed first.
-fn marks_of(a: Alignment) -> u32
-    requires { Counted a }
-    ensures { result ≡ marks (road_in a) }
-{
-    let mut set: u32 = 0;
-    let mut k: usize = 7;
-    while 0 < k {
-        k = k - 1;
-        let speed = SPEEDS[k];
-        set = 2 * set + mark_at(a, speed);
+    let mut set = 0;
+    for (bit, speed) in SPEEDS.iter().enumerate() {
+        set += u32::from(passes(a, *speed)) << bit;
     }
     set
 }
 
-// Refusals 1 to 4 and 22 of a file, or its marks.
-pub fn marks(file: &[u8]) -> MarksAnswer
-    ensures { of_marks result ≡ marks_answer file.now }
+// Refusals 1 to 4 and 22 of a file, or its seven marks, 40 km/h in the lowest bit.
+#[tactic(auto, unfolding(crate::specs::Marks::marks_answer))]
+pub fn marks(file: &[u8]) -> Result<u32, Refusal>
+    ensures { of_result result ≡ marks_answer file.now }
 {
-    let read = alignment::read(file);
-    let held = read.alignment;
-    let end = read.end;
-    match end {
-        End::Refused(number, place) => MarksAnswer::Refused(number, place),
-        End::At(_) => MarksAnswer::Marks(marks_of(held)),
-    }
+    Ok(marks_of(&alignment::read(file)?))
 }

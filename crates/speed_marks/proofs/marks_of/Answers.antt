@@ -1,34 +1,32 @@
--- Each turn sets one mark more, below those from place k on.
-use Rattle.std.specs.Prelude.{◌≡◌, refl, ℕ, ◌-◌, map, drop, get_or}
+use Rattle.std.specs.Prelude.{◌≡◌, refl, Bool, true, false, ℕ, ◌+◌, ◌*◌, ◌^◌, ◌%◌, map, take, get_or}
 use Rattle.std.proofs.Common.{ap, ◌∙◌, arith}
-use Rattle.road.specs.Held.{road_in}
-use Rattle.speed_marks.specs.Marks.{tried_speeds, stands, set_of, marks}
-use Rattle.speed_marks.specs.Sets.{bit_most, few, one_more}
+use Rattle.speed_marks.specs.Marks.{tried_speeds, stands, set_of, marks, bit}
+use Rattle.speed_marks.specs.Sets.{few, one_more, shifted}
+use Rattle.speed_marks.proofs.marks_of.Goals.{After-from}
 use Rattle.speed_marks.proofs.marks_of.Goals as goal
 
-pub loop-k-init : goal.loop-k-init
+pub loop-bit-init : goal.loop-bit-init
 unfolding set_of
-loop-k-init c = (omega arith, refl)
+loop-bit-init c = refl
 
-pub overflow_mul-set : goal.overflow_mul-set
-overflow_mul-set c = let h = few (stands (road_in c.args.a)) c.loop-k.k in let e = c.loop-k.invariant.1 in omega arith
+-- the mark of the speed, at its place above those before it
+module _ (c : After-from) where
+  mark : c.from.result ≡ bit (stands c.args.a.now (get_or tried_speeds c.loop-bit.bit 0))
+  mark = go c.passes.result refl ∙ ap bit c.passes.ensures
+    where
+      go : (b : Bool) → c.passes.result ≡ b → c.from.result ≡ bit b
+      go true e = c.from.ensures ∙ rw e
+      go false e = c.from.ensures ∙ rw e
+
+  placed : c.loop-bit.set + c.from.result * 2 ^ c.loop-bit.bit % 4294967296 ≡ set_of (take (c.loop-bit.bit + 1) (map (stands c.args.a.now) tried_speeds))
+  placed = rw (mark, shifted (stands c.args.a.now (get_or tried_speeds c.loop-bit.bit 0)) c.loop-bit.bit c.loop-bit-test.true, one_more (stands c.args.a.now) c.loop-bit.bit c.loop-bit-test.true, c.loop-bit.invariant)
 
 pub overflow_add-set : goal.overflow_add-set
-overflow_add-set c =
-    let r = road_in c.args.a in
-    let h = few (stands r) c.loop-k.k in
-    let e = c.loop-k.invariant.1 in
-    let m = bit_most (stands r (get_or tried_speeds (c.loop-k.k - 1) 0)) c.mark_at.ensures in
-    omega arith
+overflow_add-set c = let d = (goal.at.overflow_add-set c).After-from in let e = placed d in let n = few (stands c.args.a.now) (c.loop-bit.bit + 1) (omega arith) in omega arith
 
-pub loop-k-preserved : goal.loop-k-preserved
-loop-k-preserved c =
-    let v = c.loop-k in
-    (omega arith, one_more (stands (road_in c.args.a)) v.k c.loop-k-test.true v.invariant.0 v.invariant.1 c.mark_at.ensures)
+pub loop-bit-preserved : goal.loop-bit-preserved
+loop-bit-preserved c = placed (goal.at.loop-bit-preserved c).After-from
 
 pub returns : goal.returns
 unfolding marks
-returns c =
-    let v = c.loop-k in
-    let first : v.k ≡ 0 = omega arith in
-    v.invariant.1 ∙ ap (λ (k : ℕ). set_of (drop k (map (stands (road_in c.args.a)) tried_speeds))) first
+returns c = let all : c.loop-bit.bit ≡ 7 = omega arith in c.loop-bit.invariant ∙ ap (λ (k : ℕ). set_of (take k (map (stands c.args.a.now) tried_speeds))) all
