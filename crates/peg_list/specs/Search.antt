@@ -1,12 +1,12 @@
 -- The first bad peg, as it is searched for; where there is none, all pegs are good.
 use Prim.Native.Nat.{ℕ, zero, suc, ◌+◌, ◌≤◌, ◌<◌}
-use Rattle.std.specs.Prelude.{◌≡◌, Bool, true, false, ◌||◌, List, ◌∷◌, length, get_or, ltb, Option, None, Some}
+use Rattle.std.specs.Prelude.{◌≡◌, Bool, true, false, ◌||◌, List, ◌∷◌, length, get_or, ltb, None, Some}
 use Rattle.std.proofs.Math.Path.{refl, sym}
 use Rattle.std.proofs.Common.{◌∙◌, arith, add-one, below_more}
 use borrow.Author.Tests.{le-ltb, lt-ltb, le-leb, ltb-false, lt-leb, leb-true, leb-false}
 use Rattle.std.proofs.Math.Dec.{leb}
 use Rattle.laws_of_lists.specs.Tests.{or_left, or_right, or_true}
-use Rattle.laws_of_search.specs.Searches.{first_some, first-none, first-clear, first_at_some}
+use Rattle.laws_of_search.specs.Searches.{first-none, first-clear, first_at_some}
 use Rattle.peg_list.specs.Pegs.{peg_at, falls, is_bad, first_bad}
 
 -- no more than 2,000, ascending, up to T

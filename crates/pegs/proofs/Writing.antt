@@ -9,7 +9,7 @@ use lib.Seq.{take-length}
 use Rattle.decimal.specs.Written.{Wrote, wrote_none, wrote-append}
 use Rattle.road.specs.File.{Road}
 use Rattle.road.specs.Exact.{total}
-use Rattle.segment.specs.Segment.{Shows, line_in}
+use Rattle.segment.specs.Segment.{line_in}
 use Rattle.segment.proofs.LineLaws.{line-shows}
 use Rattle.cursors.specs.Places.{PlaceReached}
 use Rattle.cursors.specs.View.{Viewed, viewed-shows, viewed_later}

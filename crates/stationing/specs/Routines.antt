@@ -1,5 +1,5 @@
 -- What the two routines answer, by what the file gave and by the outcome of each test.
-use Rattle.std.specs.Prelude.{◌≡◌, List, ◌++◌, ℕ, ◌+◌, ◌≤◌, ◌<◌, length, drop, Ok, Err}
+use Rattle.std.specs.Prelude.{◌≡◌, List, ◌++◌, ℕ, ◌+◌, ◌≤◌, ◌<◌, length, drop}
 use Rattle.std.proofs.Math.Path.{refl, sym}
 use Rattle.std.proofs.Common.{ap, ◌∙◌, arith, lt-ltb, le-ltb}
 use Rattle.file_numbers.specs.Reading.{got, refused}
@@ -11,8 +11,7 @@ use Rattle.road.specs.Rules.{accepted}
 use Rattle.road.specs.Faults.{value, of_got}
 use Rattle.road.specs.Faults as faults
 use Rattle.road.specs.Said.{Gives, gives_by, said-value, said-refusal}
-use Rattle.road.specs.Machine.{Answer, refusal, wrote, of_row, of_next, row_of, row_on, buffer_of, buffer_on, overwrite, row_answer, row_buffer, next_of, next_on, next_answer}
-use Rattle.road.specs.declared.refusal.Refusal.{Refusal}
+use Rattle.road.specs.Machine.{Answer, refusal, wrote, row_of, row_on, buffer_of, buffer_on, overwrite, row_answer, row_buffer, next_of, next_on, next_answer}
 
 -- a line written from the buffer's start on
 pub overwritten : {b a x : List ℕ} {r : ℕ} → Wrote b a 0 x r → (r ≡ length x) × (a ≡ overwrite x b)

@@ -1,12 +1,8 @@
 -- The station's piece of road shows what the exact road says there, and its line is written over the buffer's first bytes.
-use Rattle.std.proofs.Common.{List, ℕ, ◌≤◌, length, ap, ◌∙◌, arith}
-use Rattle.road.specs.File.{Road}
-use Rattle.road.specs.Exact.{total}
+use Rattle.std.proofs.Common.{List, ℕ, length, ap, ◌∙◌}
 use Rattle.road.specs.Machine.{overwrite}
-use Rattle.segment.specs.Segment.{Shows}
 use Rattle.segment.proofs.LineLaws.{line-shows}
 use Rattle.cursors.specs.View.{viewed-shows}
-use Rattle.cursors.specs.declared.View.{View}
 use Rattle.stationing.specs.Routines.{overwritten}
 use Rattle.stationing.proofs.put_row.Goals as goal
 
