@@ -10,8 +10,9 @@ use Rattle.road.specs.declared.Element.{Element}
 use Rattle.road.specs.declared.Tangent.{Tangent}
 use Rattle.road.specs.declared.Crossfall.{Crossfall}
 use Rattle.fields.specs.Reads.{Reads}
+use Rattle.fields.specs.Onward.{regrouped}
 use Rattle.alignment.proofs.Onward.{Left, all, told, onward}
-use Rattle.alignment.proofs.Lists.{more}
+use Rattle.alignment.proofs.Lists.{more, list_ends}
 
 -- what follows the profile, and the plan
 abbrev pub after_profile : Head → List Element → Profile → Reading Road
@@ -25,14 +26,6 @@ with_tangents head es start ts = after_profile head es (record { start = start; 
 
 abbrev pub with_crossfalls : Head → List Element → ℤ → List Tangent → List Crossfall → Reading Road
 with_crossfalls head es start ts cs = give (record { head = head; plan = es; start = start; tangents = ts; crossfalls = cs })
-
--- a part of two, and what follows it
-regrouped : {A B C : Type 0} (m : Reading A) (f : A → Reading B) (g : B → Reading C) (s : List ℕ) (at : ℕ) → ◌>>=◌ (◌>>=◌ m f) g s at ≡ ◌>>=◌ m (λ a. ◌>>=◌ (f a) g) s at
-regrouped {A} m f g s at = go (m s at)
-  where
-    go : (x : Got A) → and_then (and_then x λ a n. f a s n) (λ b n. g b s n) ≡ and_then x λ a n. and_then (f a s n) λ b k. g b s k
-    go (got a n) = refl
-    go (refused k p) = refl
 
 -- after the head: the count of the plan, and its elements
 abbrev pub plan_counted : Head → ℕ → Reading Road
@@ -50,9 +43,9 @@ profile_counted head es start count = more tangent (with_tangents head es start)
 abbrev pub start_counted : Head → List Element → ℤ → Reading Road
 start_counted head es start = ◌>>=◌ (field 1 100) (profile_counted head es start)
 
-pub profile_left : {first now : Standing} (head : Head) (es : List Element) → Left fields first (after_plan head es) now → Left fields first (◌>>=◌ (signed (between (negsuc 499_999) (pos 3_000_000))) (start_counted head es)) now
+pub profile_left : {first now : Standing} (head : Head) (es : List Element) {left : ℕ} → left ≡ 0 → Left fields first (more (λ _. element) (after_plan head) left es) now → Left fields first (◌>>=◌ (signed (between (negsuc 499_999) (pos 3_000_000))) (start_counted head es)) now
 unfolding profile_fields
-profile_left {first} {now} head es l = told l (start_of (signed (between (negsuc 499_999) (pos 3_000_000)) now.bytes now.place))
+profile_left {first} {now} head es none l = told (list_ends (λ _. element) (after_plan head) es none l) (start_of (signed (between (negsuc 499_999) (pos 3_000_000)) now.bytes now.place))
   where
     s : List ℕ
     s = now.bytes
@@ -73,9 +66,9 @@ profile_left {first} {now} head es l = told l (start_of (signed (between (negsuc
 abbrev pub crossfalls_counted : Head → List Element → ℤ → List Tangent → ℕ → Reading Road
 crossfalls_counted head es start ts count = more (λ _. point) (with_crossfalls head es start ts) count []
 
-pub crossfalls_left : {first now : Standing} (head : Head) (es : List Element) (start : ℤ) (ts : List Tangent) → Left fields first (with_tangents head es start ts) now → Left fields first (◌>>=◌ (field 2 200) (crossfalls_counted head es start ts)) now
+pub crossfalls_left : {first now : Standing} (head : Head) (es : List Element) (start : ℤ) (ts : List Tangent) {left : ℕ} → left ≡ 0 → Left fields first (more tangent (with_tangents head es start) left ts) now → Left fields first (◌>>=◌ (field 2 200) (crossfalls_counted head es start ts)) now
 unfolding crossfall_fields
-crossfalls_left {first} {now} head es start ts l = told l (regrouped (field 2 200) (many (λ _. point)) (with_crossfalls head es start ts) now.bytes now.place)
+crossfalls_left {first} {now} head es start ts none l = told (list_ends tangent (with_tangents head es start) ts none l) (regrouped (field 2 200) (many (λ _. point)) (with_crossfalls head es start ts) now.bytes now.place)
 
 -- a count that was read is in its range
 pub few : (low high : ℕ) {before after : Standing} {count : ℕ} → Reads (field low high) before after (Ok count) → count ≤ high

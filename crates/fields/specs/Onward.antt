@@ -27,10 +27,13 @@ module _ {A B : Type 0} {m : Reading A} (f : A → Reading B) where
   stopped {before} r = record { bytes = r.bytes; read = ap (λ (g : Got A). and_then g λ x next. f x before.bytes next) r.read }
 
 -- two readings after a first, grouped the other way
-pub grouped : {A B C : Type 0} (m : Reading A) (f : A → Reading B) (g : B → Reading C) {before after : Standing} {result : Result C Refusal}
-    → Reads (◌>>=◌ (◌>>=◌ m f) g) before after result → Reads (◌>>=◌ m (λ a. ◌>>=◌ (f a) g)) before after result
-grouped {A} m f g r = alike (λ s at. go s (m s at)) r
-  where
-    go : (s : List ℕ) (x : Got A) → and_then (and_then x λ a n. f a s n) (λ b n. g b s n) ≡ and_then x λ a n. and_then (f a s n) λ b k. g b s k
-    go s (got a n) = refl
-    go s (refused k p) = refl
+module _ {A B C : Type 0} (m : Reading A) (f : A → Reading B) (g : B → Reading C) where
+  pub regrouped : (s : List ℕ) (at : ℕ) → ◌>>=◌ (◌>>=◌ m f) g s at ≡ ◌>>=◌ m (λ a. ◌>>=◌ (f a) g) s at
+  regrouped s at = go (m s at)
+    where
+      go : (x : Got A) → and_then (and_then x λ a n. f a s n) (λ b n. g b s n) ≡ and_then x λ a n. and_then (f a s n) λ b k. g b s k
+      go (got a n) = refl
+      go (refused k p) = refl
+
+  pub grouped : {before after : Standing} {result : Result C Refusal} → Reads (◌>>=◌ (◌>>=◌ m f) g) before after result → Reads (◌>>=◌ m (λ a. ◌>>=◌ (f a) g)) before after result
+  grouped r = alike regrouped r

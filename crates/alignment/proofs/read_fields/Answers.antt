@@ -34,20 +34,20 @@ loop-preserved c =
 pub returns-in_err-read_signed : goal.returns-in_err-read_signed
 returns-in_err-read_signed c =
     let l = c.loop in
-    let p = refused_there _ (profile_left l.a.head l.a.plan (list_ends (λ _. element) (after_plan l.a.head) l.a.plan (omega arith) l.invariant.left)) c.in_err-read_signed.ensures in
+    let p = refused_there _ (profile_left l.a.head l.a.plan (omega arith) l.invariant.left) c.in_err-read_signed.ensures in
     grind arith
 
 pub returns-in_err-tangents : goal.returns-in_err-tangents
 returns-in_err-tangents c =
     let l = c.loop in
-    let q = onward _ (profile_left l.a.head l.a.plan (list_ends (λ _. element) (after_plan l.a.head) l.a.plan (omega arith) l.invariant.left)) c.in_ok-read_signed.ensures in
+    let q = onward _ (profile_left l.a.head l.a.plan (omega arith) l.invariant.left) c.in_ok-read_signed.ensures in
     let p = refused_there _ q c.in_err-tangents.ensures in
     grind arith
 
 pub loop-follow-init : goal.loop-follow-init
 loop-follow-init c =
     let l = c.loop in
-    let q = onward _ (profile_left l.a.head l.a.plan (list_ends (λ _. element) (after_plan l.a.head) l.a.plan (omega arith) l.invariant.left)) c.in_ok-read_signed.ensures in
+    let q = onward _ (profile_left l.a.head l.a.plan (omega arith) l.invariant.left) c.in_ok-read_signed.ensures in
     let p = onward _ q c.in_ok-tangents.ensures in
     let same : to_z w32 (of_z w32 c.in_ok-read_signed.field-0) ≡ c.in_ok-read_signed.field-0 = search rules in
     rw (c.set_start.ensures, l.invariant.no_tangent, same) (record { left = p; long = zero-add c.in_ok-tangents.tangents; no_crossfall = l.invariant.no_crossfall })
@@ -67,14 +67,14 @@ loop-follow-preserved c =
 pub returns-in_err-crossfalls : goal.returns-in_err-crossfalls
 returns-in_err-crossfalls c =
     let l = c.loop-follow in
-    let q = crossfalls_left l.a.head l.a.plan l.a.start l.a.tangents (list_ends tangent (with_tangents l.a.head l.a.plan l.a.start) l.a.tangents (omega arith) l.invariant.left) in
+    let q = crossfalls_left l.a.head l.a.plan l.a.start l.a.tangents (omega arith) l.invariant.left in
     let p = refused_there _ q c.in_err-crossfalls.ensures in
     grind arith
 
 pub loop-2-init : goal.loop-2-init
 loop-2-init c =
     let l = c.loop-follow in
-    let q = crossfalls_left l.a.head l.a.plan l.a.start l.a.tangents (list_ends tangent (with_tangents l.a.head l.a.plan l.a.start) l.a.tangents (omega arith) l.invariant.left) in
+    let q = crossfalls_left l.a.head l.a.plan l.a.start l.a.tangents (omega arith) l.invariant.left in
     let p = onward _ q c.in_ok-crossfalls.ensures in
     rw (l.invariant.no_crossfall, sub-zero c.in_ok-crossfalls.crossfalls) (record { left = p; long = refl })
 
