@@ -16,7 +16,7 @@ use Rattle.segment_parts.specs.Tangents.{height_start, TangentFound, first_place
 use Rattle.segment_parts.specs.Ends.{curvature_at}
 use Rattle.segment_parts.specs.Sides.{point_station}
 use Rattle.segment_parts.specs.Profiles.{piece_later}
-use Rattle.segment_parts.specs.declared.Curvature.{Curvature}
+use Rattle.segment.specs.declared.Curvature.{Curvature}
 use Rattle.segment_parts.specs.declared.TangentPlace.{TangentPlace}
 use Rattle.cursors.specs.declared.Place.{Place}
 use Rattle.cursors.specs.Places.{Reached, ElementFound, TangentReached, PlaceReached, PlaceFound}

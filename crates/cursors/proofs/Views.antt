@@ -6,8 +6,8 @@ use Rattle.road.specs.Lane.{lane_width}
 use Rattle.laws_of_stations.specs.Next.{listed_has}
 use Rattle.laws_of_acceptance.specs.Guaranteed.{Guaranteed}
 use Rattle.segment.specs.declared.Segment.{Segment}
-use Rattle.segment_parts.specs.declared.Sides.{Sides}
-use Rattle.segment_parts.specs.declared.Curvature.{Curvature}
+use Rattle.segment.specs.declared.Sides.{Sides}
+use Rattle.segment.specs.declared.Curvature.{Curvature}
 use Rattle.segment_parts.specs.Sides.{point_station, sides_of}
 use Rattle.segment_parts.specs.Ends.{curvature_at}
 use Rattle.segment_parts.specs.Segments.{segment_of, joint_of}

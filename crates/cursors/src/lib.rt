@@ -10,8 +10,8 @@ ghost use Rattle.cursors.specs.View.{Viewed};
 
 use accepted_road::AcceptedRoad;
 use road::{Element, Kind, Tangent};
-use segment::Segment;
-use segment_parts::{Curvature, Piece, Sides, TangentPlace};
+use segment::{Curvature, Piece, Segment, Sides};
+use segment_parts::TangentPlace;
 
 // An element: which it is, where it begins and ends, and its curvature.
 #[derive(Clone, Copy)]
@@ -107,14 +107,14 @@ fn profile_from(road: &AcceptedRoad, first: TangentPlace, x: u64) -> ProfilePlac
     let mut tangent = first;
     let mut t = tangents[tangent.index];
     while tangent.index + 1 < tangents.len() && tangent.begin + t.length as u64 <= x {
-        tangent = segment_parts::next_tangent(tangent, t);
+        tangent = tangent.next(t);
         t = tangents[tangent.index];
     }
     let next = tangents
         .get(tangent.index + 1)
         .copied()
         .unwrap_or(BLANK_TANGENT);
-    let piece = segment_parts::piece_of(tangent, t, next, x);
+    let piece = tangent.piece(t, next, x);
     ProfilePlace { tangent, piece }
 }
 
@@ -176,7 +176,7 @@ fn crossfall_on(road: &AcceptedRoad, p: CrossfallPlace, x: u64) -> CrossfallPlac
 pub fn start(road: &AcceptedRoad) -> Place
     ensures { (x : ℕ) → PlaceReached road.now result x }
 {
-    let first = segment_parts::first_tangent(road.alignment().start());
+    let first = TangentPlace::first(road.alignment().start());
     let element = element_from(road, 0, 0, 0);
     let profile = profile_from(road, first, 0);
     let crossfall = crossfall_from(road, 0, 0);

@@ -19,6 +19,12 @@ use Rattle.segment.specs.Sizes.{InCurve}
 use Rattle.segment.proofs.Laws.{times-low, floor-small}
 
 module _ {line change half u : ℤ} (p : InCurve 27240000000000 line change half u) where
+  pub change-fits : SFits w64 change
+  change-fits = fits64 change (omega (arith, p.change-size))
+
+  pub half-fits : SFits w64 half
+  half-fits = fits64 half (omega (arith, p.half_high))
+
   u_small : nat_abs u ≤ 2000000
   u_small = omega (arith, p.inside, p.half_high)
 

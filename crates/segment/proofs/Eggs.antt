@@ -14,7 +14,7 @@ use Rattle.integers.proofs.RoundingLaws.{rounded-value, round-size}
 use Rattle.integers.specs.Width.{divisor, above_zero}
 use Rattle.segment.specs.Segment.{value_of}
 use Rattle.segment.specs.Sizes.{OnEgg, EggSizes}
-use Rattle.segment.specs.declared.End.{End}
+use Rattle.segment.specs.declared.Curvature.{Curvature}
 use Rattle.segment.proofs.Signs.{as_size, left-turn, right-turn}
 
 -- ---- its size, from the sizes of the turn and the radii
@@ -105,18 +105,18 @@ rounded-even turn first second length past f g h i =
     rounded-value (subst (λ (n : ℕ). (turn ÷ first) ×ᶠ ((pos n -ℤ pos past) ÷ n) +ᶠ (turn ÷ second) ×ᶠ (pos past ÷ n) ≈ᶠ (turn *ℤ pos (second * (length - past) + first * past)) ÷ (first * second * n)) e
     (value turn first second (length - past) past f g (omega arith)))
 
-module _ {start end : End} {length past : ℤ} (p : OnEgg start end length past) where
+module _ {c : Curvature} {past : ℤ} (p : OnEgg c past) where
   abbrev turn : ℕ
-  turn = nat_abs start.turn
+  turn = nat_abs c.start.turn
 
   abbrev first : ℕ
-  first = nat_abs start.radius
+  first = nat_abs c.start.radius
 
   abbrev second : ℕ
-  second = nat_abs end.radius
+  second = nat_abs c.end.radius
 
   abbrev l : ℕ
-  l = nat_abs length
+  l = nat_abs c.length
 
   abbrev d : ℕ
   d = nat_abs past
@@ -128,21 +128,21 @@ module _ {start end : End} {length past : ℤ} (p : OnEgg start end length past)
   under = first * second * l
 
   pub radii : (0 < first) × (first ≤ 1000000) × (0 < second) × (second ≤ 1000000)
-  radii = (above_zero start.radius p.start-size.radius-low, p.start-high, above_zero end.radius p.end-size.radius-low, p.end-high)
+  radii = (above_zero c.start.radius p.start-size.radius-low, p.start-high, above_zero c.end.radius p.end-size.radius-low, p.end-high)
 
   -- the same turn at both ends, over numbers without their signs
-  evenly : rounded (value_of start ×ᶠ ((length -ℤ past) ÷ l) +ᶠ value_of end ×ᶠ (past ÷ l)) ≡ round (start.turn *ℤ pos over) under
+  evenly : rounded (value_of c.start ×ᶠ ((c.length -ℤ past) ÷ l) +ᶠ value_of c.end ×ᶠ (past ÷ l)) ≡ round (c.start.turn *ℤ pos over) under
   evenly =
-      ap (λ (t : ℤ). rounded (value_of start ×ᶠ ((length -ℤ past) ÷ l) +ᶠ (t ÷ second) ×ᶠ (past ÷ l))) (sym p.same_turn)
-      ∙ ap₂ (λ (m n : ℤ). rounded (value_of start ×ᶠ ((m -ℤ n) ÷ l) +ᶠ (start.turn ÷ second) ×ᶠ (n ÷ l))) (divisor length p.length-low) (as_size p.past-low)
-      ∙ rounded-even start.turn first second l d radii.0 radii.2 (above_zero length p.length-low) p.inside
+      ap (λ (t : ℤ). rounded (value_of c.start ×ᶠ ((c.length -ℤ past) ÷ l) +ᶠ (t ÷ second) ×ᶠ (past ÷ l))) (sym p.same_turn)
+      ∙ ap₂ (λ (m n : ℤ). rounded (value_of c.start ×ᶠ ((m -ℤ n) ÷ l) +ᶠ (c.start.turn ÷ second) ×ᶠ (n ÷ l))) (divisor c.length p.length-low) (as_size p.past-low)
+      ∙ rounded-even c.start.turn first second l d radii.0 radii.2 (above_zero c.length p.length-low) p.inside
 
   module _ {k r : ℕ} (e : k ≡ turn) (h : r ≡ nearest_size (k * over) under) where
     answer : pos r ≡ pos (nearest_size (turn * over) under)
     answer = ap pos (h ∙ ap (λ (n : ℕ). nearest_size (n * over) under) e)
 
-    pub to_left : start.turn <ℤ pos 0 → pos 0 -ℤ pos r ≡ rounded (value_of start ×ᶠ ((length -ℤ past) ÷ l) +ᶠ value_of end ×ᶠ (past ÷ l))
-    to_left g = ap (λ (n : ℤ). pos 0 -ℤ n) answer ∙ left-turn start.turn over under g ∙ sym evenly
+    pub to_left : c.start.turn <ℤ pos 0 → pos 0 -ℤ pos r ≡ rounded (value_of c.start ×ᶠ ((c.length -ℤ past) ÷ l) +ᶠ value_of c.end ×ᶠ (past ÷ l))
+    to_left g = ap (λ (n : ℤ). pos 0 -ℤ n) answer ∙ left-turn c.start.turn over under g ∙ sym evenly
 
-    pub to_right : pos 0 ≤ℤ start.turn → pos r ≡ rounded (value_of start ×ᶠ ((length -ℤ past) ÷ l) +ᶠ value_of end ×ᶠ (past ÷ l))
-    to_right g = answer ∙ right-turn start.turn over under g ∙ sym evenly
+    pub to_right : pos 0 ≤ℤ c.start.turn → pos r ≡ rounded (value_of c.start ×ᶠ ((c.length -ℤ past) ÷ l) +ᶠ value_of c.end ×ᶠ (past ÷ l))
+    to_right g = answer ∙ right-turn c.start.turn over under g ∙ sym evenly

@@ -65,69 +65,69 @@ module _ {s : Segment} {x : ℕ} (p : Sound s x) where
   d = past s.element x
 
   abbrev l : ℕ
-  l = nat_abs s.length
+  l = nat_abs s.curvature.length
 
-  pub of_start : OfEnd s.start s.length (s.length -ℤ d)
-  of_start = record { end-size = p.start-size; length-low = p.length-low; length_high = p.length_high; inside = remaining-small s.length d p.length-low p.element-low p.element-high }
+  pub of_start : OfEnd s.curvature.start s.curvature.length (s.curvature.length -ℤ d)
+  of_start = record { end-size = p.start-size; length-low = p.length-low; length_high = p.length_high; inside = remaining-small s.curvature.length d p.length-low p.element-low p.element-high }
 
-  pub of_end : OfEnd s.end s.length d
+  pub of_end : OfEnd s.curvature.end s.curvature.length d
   of_end = record { end-size = p.end-size; length-low = p.length-low; length_high = p.length_high; inside = p.element-high }
 
-  pub remaining-fits : SFits w64 (s.length -ℤ d)
-  remaining-fits = fits64 (s.length -ℤ d) (omega (arith, of_start.inside, p.length_high))
+  pub remaining-fits : SFits w64 (s.curvature.length -ℤ d)
+  remaining-fits = fits64 (s.curvature.length -ℤ d) (omega (arith, of_start.inside, p.length_high))
 
   share_positive : {e : End} → SizedEnd e → 0 < nat_abs e.radius * l
-  share_positive {e} h = positive-mul (nat_abs e.radius) l (above_zero e.radius h.radius-low) (above_zero s.length p.length-low)
+  share_positive {e} h = positive-mul (nat_abs e.radius) l (above_zero e.radius h.radius-low) (above_zero s.curvature.length p.length-low)
 
-  both_positive : 0 < (nat_abs s.start.radius * l) * (nat_abs s.end.radius * l)
-  both_positive = positive-mul (nat_abs s.start.radius * l) (nat_abs s.end.radius * l) (share_positive p.start-size) (share_positive p.end-size)
+  both_positive : 0 < (nat_abs s.curvature.start.radius * l) * (nat_abs s.curvature.end.radius * l)
+  both_positive = positive-mul (nat_abs s.curvature.start.radius * l) (nat_abs s.curvature.end.radius * l) (share_positive p.start-size) (share_positive p.end-size)
 
-  pub straight-before : s.start.turn ≡ pos 0 → rounded (value_of s.end ×ᶠ (d ÷ l)) ≡ rounded (curvature_in s x)
+  pub straight-before : s.curvature.start.turn ≡ pos 0 → rounded (value_of s.curvature.end ×ᶠ (d ÷ l)) ≡ rounded (curvature_in s x)
   unfolding curvature_in
   straight-before e = rounded-value (record {
     defined = share_positive p.end-size;
     other-defined = both_positive;
-    same = rw e (ring (s.end.turn ∷ d ∷ (s.length -ℤ d) ∷ pos (nat_abs s.start.radius) ∷ pos (nat_abs s.end.radius) ∷ pos l ∷ [])
+    same = rw e (ring (s.curvature.end.turn ∷ d ∷ (s.curvature.length -ℤ d) ∷ pos (nat_abs s.curvature.start.radius) ∷ pos (nat_abs s.curvature.end.radius) ∷ pos l ∷ [])
         (($ 0 :* $ 1) :* (($ 3 :* $ 5) :* ($ 4 :* $ 5))) (((# 0 :* $ 2) :* ($ 4 :* $ 5) :+ ($ 0 :* $ 1) :* ($ 3 :* $ 5)) :* ($ 4 :* $ 5)) tt);
   })
 
-  pub straight-behind : s.end.turn ≡ pos 0 → rounded (value_of s.start ×ᶠ ((s.length -ℤ d) ÷ l)) ≡ rounded (curvature_in s x)
+  pub straight-behind : s.curvature.end.turn ≡ pos 0 → rounded (value_of s.curvature.start ×ᶠ ((s.curvature.length -ℤ d) ÷ l)) ≡ rounded (curvature_in s x)
   unfolding curvature_in
   straight-behind e = rounded-value (record {
     defined = share_positive p.start-size;
     other-defined = both_positive;
-    same = rw e (ring (s.start.turn ∷ d ∷ (s.length -ℤ d) ∷ pos (nat_abs s.start.radius) ∷ pos (nat_abs s.end.radius) ∷ pos l ∷ [])
+    same = rw e (ring (s.curvature.start.turn ∷ d ∷ (s.curvature.length -ℤ d) ∷ pos (nat_abs s.curvature.start.radius) ∷ pos (nat_abs s.curvature.end.radius) ∷ pos l ∷ [])
         (($ 0 :* $ 2) :* (($ 3 :* $ 5) :* ($ 4 :* $ 5))) ((($ 0 :* $ 2) :* ($ 4 :* $ 5) :+ (# 0 :* $ 1) :* ($ 3 :* $ 5)) :* ($ 3 :* $ 5)) tt);
   })
 
-  pub no_curve : s.start.turn ≡ pos 0 → s.end.turn ≡ pos 0 → pos 0 ≡ rounded (curvature_in s x)
+  pub no_curve : s.curvature.start.turn ≡ pos 0 → s.curvature.end.turn ≡ pos 0 → pos 0 ≡ rounded (curvature_in s x)
   unfolding rounded
-  no_curve e f = round-multiple (nat_abs s.end.radius * l) (pos 0) (share_positive p.end-size) (rw f (ring (d ∷ pos (nat_abs s.end.radius) ∷ pos l ∷ []) (# 0 :* $ 0) (($ 1 :* $ 2) :* # 0) tt)) ∙ straight-before e
+  no_curve e f = round-multiple (nat_abs s.curvature.end.radius * l) (pos 0) (share_positive p.end-size) (rw f (ring (d ∷ pos (nat_abs s.curvature.end.radius) ∷ pos l ∷ []) (# 0 :* $ 0) (($ 1 :* $ 2) :* # 0) tt)) ∙ straight-before e
 
-  arc : s.start ≡ s.end → rounded (value_of s.start) ≡ rounded (curvature_in s x)
+  arc : s.curvature.start ≡ s.curvature.end → rounded (value_of s.curvature.start) ≡ rounded (curvature_in s x)
   unfolding curvature_in
   arc e = rounded-value (record {
-    defined = above_zero s.start.radius p.start-size.radius-low;
+    defined = above_zero s.curvature.start.radius p.start-size.radius-low;
     other-defined = both_positive;
-    same = rw (← e, divisor s.length p.length-low) (ring (s.start.turn ∷ d ∷ pos (nat_abs s.start.radius) ∷ pos l ∷ [])
+    same = rw (← e, divisor s.curvature.length p.length-low) (ring (s.curvature.start.turn ∷ d ∷ pos (nat_abs s.curvature.start.radius) ∷ pos l ∷ [])
         ($ 0 :* (($ 2 :* $ 3) :* ($ 2 :* $ 3))) ((($ 0 :* ($ 3 :- $ 1)) :* ($ 2 :* $ 3) :+ ($ 0 :* $ 1) :* ($ 2 :* $ 3)) :* $ 2) tt);
   })
 
   -- ---- neither end is a straight's
-  module _ (a : s.start.turn ≡ pos 0 → ⊥) (b : s.end.turn ≡ pos 0 → ⊥) where
-    pub arc-between : s.start.radius ≡ s.end.radius → rounded (value_of s.start) ≡ rounded (curvature_in s x)
+  module _ (a : s.curvature.start.turn ≡ pos 0 → ⊥) (b : s.curvature.end.turn ≡ pos 0 → ⊥) where
+    pub arc-between : s.curvature.start.radius ≡ s.curvature.end.radius → rounded (value_of s.curvature.start) ≡ rounded (curvature_in s x)
     arc-between r = go p.joined
       where
-        go : Joined s.start s.end → rounded (value_of s.start) ≡ rounded (curvature_in s x)
+        go : Joined s.curvature.start s.curvature.end → rounded (value_of s.curvature.start) ≡ rounded (curvature_in s x)
         go (from_zero e) = absurd (a e)
         go (to_zero e) = absurd (b e)
         go (same-arc e) = arc e
         go (egg e _ _) = arc (ap₂ (λ (t n : ℤ). record { turn = t; radius = n }) e r)
 
-    pub egg-between : (s.start.radius ≡ s.end.radius → ⊥) → OnEgg s.start s.end s.length d
+    pub egg-between : (s.curvature.start.radius ≡ s.curvature.end.radius → ⊥) → OnEgg s.curvature d
     egg-between r = go p.joined
       where
-        go : Joined s.start s.end → OnEgg s.start s.end s.length d
+        go : Joined s.curvature.start s.curvature.end → OnEgg s.curvature d
         go (from_zero e) = absurd (a e)
         go (to_zero e) = absurd (b e)
         go (same-arc e) = absurd (r (ap (λ (n : End). n.radius) e))
@@ -143,6 +143,6 @@ module _ {s : Segment} {x : ℕ} (p : Sound s x) where
           inside = p.element-high;
         }
 
-  pub egg-answer : {r u : ℤ} → u ≡ d → r ≡ rounded (value_of s.start ×ᶠ ((s.length -ℤ u) ÷ l) +ᶠ value_of s.end ×ᶠ (u ÷ l)) → r ≡ rounded (curvature_in s x)
+  pub egg-answer : {r u : ℤ} → u ≡ d → r ≡ rounded (value_of s.curvature.start ×ᶠ ((s.curvature.length -ℤ u) ÷ l) +ᶠ value_of s.curvature.end ×ᶠ (u ÷ l)) → r ≡ rounded (curvature_in s x)
   unfolding curvature_in
-  egg-answer {r} q e = subst (λ (u : ℤ). r ≡ rounded (value_of s.start ×ᶠ ((s.length -ℤ u) ÷ l) +ᶠ value_of s.end ×ᶠ (u ÷ l))) q e
+  egg-answer {r} q e = subst (λ (u : ℤ). r ≡ rounded (value_of s.curvature.start ×ᶠ ((s.curvature.length -ℤ u) ÷ l) +ᶠ value_of s.curvature.end ×ᶠ (u ÷ l))) q e

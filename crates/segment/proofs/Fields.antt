@@ -6,13 +6,14 @@ use native.Mathlib.Nat.{mul-le-mul}
 use lib.IntN.{ℤ, pos, negsuc, ◌+ℤ◌, ◌*ℤ◌, nat_abs}
 use lib.Signed.{◌≤ℤ◌, ◌<ℤ◌}
 use mir.Syntax.{w64}
-use mir.Val.{SFits, of_z}
+use mir.Val.{SFits, of_z, to_z}
+use mir.Facts.{to_z-of_z}
 use Rattle.integers.specs.Bridge.{int, nat, ◌⊖◌, lt!, abs!, abs?, abs_add}
 use Rattle.integers.specs.Fraction.{◌÷◌}
 use Rattle.integers.specs.Rounding.{round, rounded}
 use Rattle.integers.specs.Width.{fits64, above_zero, Doubles}
 use Rattle.road.specs.Exact.{Side, left, right}
-use Rattle.segment.specs.Segment.{Sound, past, on_tangent, height_in, grade_in, crossfall_in, drop_in, curvature_in, side_start, side_change, numbers_in}
+use Rattle.segment.specs.Segment.{Sound, past, on_tangent, height_in, grade_in, crossfall_in, drop_in, curvature_in, ramp, numbers_in}
 use Rattle.segment.specs.declared.Numbers.{Numbers}
 use Rattle.segment.specs.Sizes.{InCurve, OnSide, lane_of}
 use Rattle.segment.specs.Short.{height-size, crossfall-size, drop-size}
@@ -38,74 +39,81 @@ bits-other (pos n) l e = lt! (nat 0) (nat n) (let h : n ≡ 0 → ⊥ = e in ome
 bits-other (negsuc n) l e = absurd l.le
 
 module _ {s : Segment} {x : ℕ} (p : Sound s x) where
-  pub from-fits : SFits w64 s.from
-  from-fits = fits64 s.from (omega (arith, p.from-size))
+  pub from-fits : SFits w64 s.piece.from
+  from-fits = fits64 s.piece.from (omega (arith, p.from-size))
 
-  pub height-fits : SFits w64 s.height
-  height-fits = fits64 s.height (omega (arith, p.height-size))
+  pub height-fits : SFits w64 s.piece.height
+  height-fits = fits64 s.piece.height (omega (arith, p.height-size))
 
-  pub grade-fits : SFits w64 s.grade
-  grade-fits = fits64 s.grade (omega (arith, p.grade))
+  pub grade-fits : SFits w64 s.piece.grade
+  grade-fits = fits64 s.piece.grade (omega (arith, p.grade))
 
-  pub change-fits : SFits w64 s.change
-  change-fits = fits64 s.change (omega (arith, p.change))
+  pub change-fits : SFits w64 s.piece.change
+  change-fits = fits64 s.piece.change (omega (arith, p.change))
 
-  pub half-fits : SFits w64 s.half
-  half-fits = fits64 s.half (omega (arith, p.half_high))
+  pub half-fits : SFits w64 s.piece.half
+  half-fits = fits64 s.piece.half (omega (arith, p.half_high))
 
-  pub point-fits : SFits w64 s.point
-  point-fits = fits64 s.point (omega (arith, place-small s.point x (nat_abs s.span) p.point-high, p.span_high, p.station))
+  pub point-fits : SFits w64 s.sides.point
+  point-fits = fits64 s.sides.point (omega (arith, place-small s.sides.point x (nat_abs s.sides.span) p.point-high, p.span_high, p.station))
 
-  pub span_fits : SFits w64 s.span
-  span_fits = fits64 s.span (omega (arith, p.span_high))
+  pub span_fits : SFits w64 s.sides.span
+  span_fits = fits64 s.sides.span (omega (arith, p.span_high))
 
-  pub start_fits : (d : Side) → SFits w64 (side_start d s)
-  start_fits d = fits64 (side_start d s) (omega (arith, (p.sides d).0))
+  pub start_fits : (d : Side) → SFits w64 ((ramp d s).start)
+  start_fits d = fits64 ((ramp d s).start) (omega (arith, (p.sides d).0))
 
-  pub slope-fits : (d : Side) → SFits w64 (side_change d s)
-  slope-fits d = fits64 (side_change d s) (omega (arith, (p.sides d).1))
+  pub slope-fits : (d : Side) → SFits w64 ((ramp d s).change)
+  slope-fits d = fits64 ((ramp d s).change) (omega (arith, (p.sides d).1))
 
   pub lane-fits : SFits w64 s.lane
   lane-fits = fits64 s.lane (omega (arith, p.lane))
 
   pub element-fits : SFits w64 s.element
-  element-fits = fits64 s.element (omega (arith, place-small s.element x (nat_abs s.length) p.element-high, p.length_high, p.station))
+  element-fits = fits64 s.element (omega (arith, place-small s.element x (nat_abs s.curvature.length) p.element-high, p.length_high, p.station))
 
-  pub length-fits : SFits w64 s.length
-  length-fits = fits64 s.length (omega (arith, p.length_high))
+  pub length-fits : SFits w64 s.curvature.length
+  length-fits = fits64 s.curvature.length (omega (arith, p.length_high))
 
   -- ---- distances
-  pub from_distance : (x ≤ 100000000) × (nat_abs (past s.from x) ≤ 1000000000)
-  from_distance = (p.station, omega (arith, distance_small s.from x 100000000 p.from-size, p.station))
+  pub from_distance : (x ≤ 100000000) × (nat_abs (past s.piece.from x) ≤ 1000000000)
+  from_distance = (p.station, omega (arith, distance_small s.piece.from x 100000000 p.from-size, p.station))
 
-  pub point_distance : (x ≤ 100000000) × (nat_abs (past s.point x) ≤ 1000000000)
+  pub point_distance : (x ≤ 100000000) × (nat_abs (past s.sides.point x) ≤ 1000000000)
   point_distance = (p.station, omega (arith, p.point-high, p.span_high))
 
+  -- a distance as the code has it
+  pub from-is : {u : ℤ} → u ≡ past (to_z w64 (of_z w64 s.piece.from)) x → u ≡ past s.piece.from x
+  from-is e = simp (to_z-of_z, from-fits) at e
+
   -- ---- height and grade
-  straight : of_z w64 s.half ≡ 0 → nat_abs s.half ≡ 0
-  straight e = bits_zero s.half p.half-low e
+  straight : of_z w64 s.piece.half ≡ 0 → nat_abs s.piece.half ≡ 0
+  straight e = bits_zero s.piece.half p.half-low e
 
-  curved : (of_z w64 s.half ≡ 0 → ⊥) → 0 < nat_abs s.half
-  curved e = above_zero s.half (bits-other s.half p.half-low e)
+  curved : (of_z w64 s.piece.half ≡ 0 → ⊥) → 0 < nat_abs s.piece.half
+  curved e = above_zero s.piece.half (bits-other s.piece.half p.half-low e)
 
-  pub grade-straight : of_z w64 s.half ≡ 0 → s.grade ≡ rounded (grade_in s x)
+  pub grade-straight : of_z w64 s.piece.half ≡ 0 → s.piece.grade ≡ rounded (grade_in s x)
   unfolding rounded
-  grade-straight e = round_whole s.grade ∙ ap rounded (sym (grade-on-tangent s x (straight e)))
+  grade-straight e = round_whole s.piece.grade ∙ ap rounded (sym (grade-on-tangent s x (straight e)))
 
-  pub height-line : (x ≤ 100000000) × ((nat_abs (past s.from x) ≤ 1000000000) × (nat_abs s.height + nat_abs s.grade * nat_abs (past s.from x) < 9223372036854775808))
-  height-line = (from_distance.0, (from_distance.1, omega (arith, mul-le-mul p.grade from_distance.1, p.height-size)))
+  pub height-line : nat_abs s.piece.height + nat_abs s.piece.grade * nat_abs (past s.piece.from x) < 9223372036854775808
+  height-line = omega (arith, mul-le-mul p.grade from_distance.1, p.height-size)
+
+  pub line-is : {u line : ℤ} → SFits w64 u → u ≡ past s.piece.from x → line ≡ to_z w64 (of_z w64 s.piece.height) +ℤ to_z w64 (of_z w64 s.piece.grade) *ℤ to_z w64 (of_z w64 u) → line ≡ on_tangent s x
+  line-is small e q = (simp (to_z-of_z, height-fits, grade-fits, small) at q) ∙ ap (λ (u : ℤ). s.piece.height +ℤ s.piece.grade *ℤ u) e
 
   pub height_rounds : {line : ℤ} → line ≡ on_tangent s x → Doubles line (pos 1000000)
   height_rounds e-line = record { above = lt! (nat 0) (nat 1000000) (omega arith); dividend = omega (arith, ap nat_abs e-line, p.height); divisor = omega arith }
 
-  pub height-straight : {line : ℤ} → line ≡ on_tangent s x → of_z w64 s.half ≡ 0 → {r : ℤ} → r ≡ round line 1000000 → r ≡ rounded (height_in s x)
+  pub height-straight : {line : ℤ} → line ≡ on_tangent s x → of_z w64 s.piece.half ≡ 0 → {r : ℤ} → r ≡ round line 1000000 → r ≡ rounded (height_in s x)
   unfolding rounded
   height-straight e-line e q = q ∙ ap (λ (l : ℤ). round l 1000000) e-line ∙ ap rounded (sym (height-on-tangent s x (straight e)))
 
-  module _ {u : ℤ} (e-u : u ≡ past s.from x) where
-    in_curve_lem : {first : ℤ} (bound : ℕ) → nat_abs first ≤ bound → (of_z w64 s.half ≡ 0 → ⊥) → InCurve bound first s.change s.half u
+  module _ {u : ℤ} (e-u : u ≡ past s.piece.from x) where
+    in_curve_lem : {first : ℤ} (bound : ℕ) → nat_abs first ≤ bound → (of_z w64 s.piece.half ≡ 0 → ⊥) → InCurve bound first s.piece.change s.piece.half u
     in_curve_lem bound h e =
-        let low = bits-other s.half p.half-low e in
+        let low = bits-other s.piece.half p.half-low e in
         rw e-u (record {
           first-size = h;
           change-size = p.change;
@@ -114,29 +122,29 @@ module _ {s : Segment} {x : ℕ} (p : Sound s x) where
           inside = (p.in_curve_lem (curved e)).1;
         })
 
-    pub grade-curve : (of_z w64 s.half ≡ 0 → ⊥) → InCurve 120000 s.grade s.change s.half u
+    pub grade-curve : (of_z w64 s.piece.half ≡ 0 → ⊥) → InCurve 120000 s.piece.grade s.piece.change s.piece.half u
     grade-curve e = in_curve_lem 120000 p.grade e
 
-    pub grade-curved : (of_z w64 s.half ≡ 0 → ⊥) → {r : ℤ} → r ≡ rounded ((s.grade *ℤ pos (2 * nat_abs s.half) +ℤ s.change *ℤ u) ÷ (2 * nat_abs s.half)) → r ≡ rounded (grade_in s x)
+    pub grade-curved : (of_z w64 s.piece.half ≡ 0 → ⊥) → {r : ℤ} → r ≡ rounded ((s.piece.grade *ℤ pos (2 * nat_abs s.piece.half) +ℤ s.piece.change *ℤ u) ÷ (2 * nat_abs s.piece.half)) → r ≡ rounded (grade_in s x)
     grade-curved e q = q
-        ∙ ap (λ (u : ℤ). rounded ((s.grade *ℤ pos (2 * nat_abs s.half) +ℤ s.change *ℤ u) ÷ (2 * nat_abs s.half))) e-u
+        ∙ ap (λ (u : ℤ). rounded ((s.piece.grade *ℤ pos (2 * nat_abs s.piece.half) +ℤ s.piece.change *ℤ u) ÷ (2 * nat_abs s.piece.half))) e-u
         ∙ ap rounded (sym (grade_in_curve s x (curved e)))
 
     module _ {line : ℤ} (e-line : line ≡ on_tangent s x) where
-      pub height-curve : (of_z w64 s.half ≡ 0 → ⊥) → InCurve 27240000000000 line s.change s.half u
+      pub height-curve : (of_z w64 s.piece.half ≡ 0 → ⊥) → InCurve 27240000000000 line s.piece.change s.piece.half u
       height-curve e = in_curve_lem 27240000000000 (rw e-line p.height) e
 
-      pub height-curved : (of_z w64 s.half ≡ 0 → ⊥) → {r : ℤ} → r ≡ rounded ((line *ℤ pos (4 * nat_abs s.half) +ℤ s.change *ℤ (u *ℤ u)) ÷ (4 * nat_abs s.half * 1000000)) → r ≡ rounded (height_in s x)
+      pub height-curved : (of_z w64 s.piece.half ≡ 0 → ⊥) → {r : ℤ} → r ≡ rounded ((line *ℤ pos (4 * nat_abs s.piece.half) +ℤ s.piece.change *ℤ (u *ℤ u)) ÷ (4 * nat_abs s.piece.half * 1000000)) → r ≡ rounded (height_in s x)
       height-curved e q = q
-          ∙ ap₂ (λ (l u : ℤ). rounded ((l *ℤ pos (4 * nat_abs s.half) +ℤ s.change *ℤ (u *ℤ u)) ÷ (4 * nat_abs s.half * 1000000))) e-line e-u
+          ∙ ap₂ (λ (l u : ℤ). rounded ((l *ℤ pos (4 * nat_abs s.piece.half) +ℤ s.piece.change *ℤ (u *ℤ u)) ÷ (4 * nat_abs s.piece.half * 1000000))) e-line e-u
           ∙ ap rounded (sym (height_in_curve s x (curved e)))
 
   pub element_distance : (x ≤ 100000000) × (nat_abs (past s.element x) ≤ 1000000000)
   element_distance = (p.station, omega (arith, p.element-high, p.length_high))
 
   -- ---- the two sides
-  module _ {u : ℤ} (e-u : u ≡ past s.point x) (d : Side) where
-    pub on_side : OnSide (side_start d s) (side_change d s) s.span s.lane u
+  module _ {u : ℤ} (e-u : u ≡ past s.sides.point x) (d : Side) where
+    pub on_side : OnSide (ramp d s) s.sides.span s.lane u
     on_side = rw e-u (record {
       start-size = (p.sides d).0;
       change-size = (p.sides d).1;
@@ -146,14 +154,14 @@ module _ {s : Segment} {x : ℕ} (p : Sound s x) where
       inside = p.point-high;
     })
 
-    module _ {l : Lane} (e-l : l ≡ lane_of (side_start d s) (side_change d s) s.span s.lane u) where
+    module _ {l : Lane} (e-l : l ≡ lane_of (ramp d s) s.sides.span s.lane u) where
       pub crossfall-is : l.crossfall ≡ rounded (crossfall_in d s x)
       unfolding lane_of crossfall_in
-      crossfall-is = ap (λ (l : Lane). l.crossfall) e-l ∙ ap (λ (u : ℤ). rounded ((side_start d s *ℤ s.span +ℤ side_change d s *ℤ u) ÷ nat_abs s.span)) e-u
+      crossfall-is = ap (λ (l : Lane). l.crossfall) e-l ∙ ap (λ (u : ℤ). rounded (((ramp d s).start *ℤ s.sides.span +ℤ (ramp d s).change *ℤ u) ÷ nat_abs s.sides.span)) e-u
 
       pub drop-is : l.drop ≡ rounded (drop_in d s x)
       unfolding lane_of drop_in
-      drop-is = ap (λ (l : Lane). l.drop) e-l ∙ ap (λ (u : ℤ). rounded (((side_start d s *ℤ s.span +ℤ side_change d s *ℤ u) *ℤ s.lane) ÷ (nat_abs s.span * 1000000))) e-u
+      drop-is = ap (λ (l : Lane). l.drop) e-l ∙ ap (λ (u : ℤ). rounded ((((ramp d s).start *ℤ s.sides.span +ℤ (ramp d s).change *ℤ u) *ℤ s.lane) ÷ (nat_abs s.sides.span * 1000000))) e-u
 
   -- ---- the numbers
   pub station-fits : SFits w64 (pos x)

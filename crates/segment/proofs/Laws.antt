@@ -16,6 +16,7 @@ use Rattle.integers.specs.Rounding.{floor, round, rounded}
 use Rattle.integers.proofs.RoundingLaws.{round-scale, round-from, round-upto}
 use Rattle.integers.specs.Width.{fits64, divisor, above_zero, Doubles}
 use Rattle.segment.specs.Sizes.{InCurve, OfLane, OnSide, lane_of}
+use Rattle.segment.specs.declared.Ramp.{Ramp}
 use Rattle.segment.specs.declared.Lane.{Lane}
 
 -- a multiple of a number above zero
@@ -58,6 +59,15 @@ module _ (start slope distance : ℤ) (h : nat_abs start + nat_abs slope * nat_a
 
 -- the grade in a vertical curve
 module _ {grade change half u : ℤ} (p : InCurve 120000 grade change half u) where
+  pub first-fits : SFits w64 grade
+  first-fits = fits64 grade (omega (arith, p.first-size))
+
+  pub change-fits : SFits w64 change
+  change-fits = fits64 change (omega (arith, p.change-size))
+
+  pub half-fits : SFits w64 half
+  half-fits = fits64 half (omega (arith, p.half_high))
+
   double_small : nat_abs (pos 2 *ℤ half) ≤ 2000000
   double_small = abs_product (pos 2) half {k = 2} (omega arith) p.half_high
 
@@ -89,6 +99,9 @@ module _ {grade change half u : ℤ} (p : InCurve 120000 grade change half u) wh
 
 -- the drop of an edge
 module _ {over span width : ℤ} (p : OfLane over span width) where
+  pub span-fits : SFits w64 span
+  span-fits = fits64 span (omega (arith, p.span_high))
+
   over-small : nat_abs over ≤ 24000000000000
   over-small = let h = p.over-size in omega (arith, mul-le-mul_left 240000 p.span_high)
 
@@ -116,23 +129,35 @@ module _ {over span width : ℤ} (p : OfLane over span width) where
   drop-answer e = e ∙ ap (round (over *ℤ width)) (abs_mul span (pos 1000000))
 
 -- a side's crossfall
-module _ {start change span width u : ℤ} (p : OnSide start change span width u) where
-  start_small : nat_abs (start *ℤ span) ≤ 80000 * nat_abs span
-  start_small = abs_product start span {l = nat_abs span} p.start-size (omega arith)
+module _ {side : Ramp} {span width u : ℤ} (p : OnSide side span width u) where
+  pub side-start-fits : SFits w64 side.start
+  side-start-fits = fits64 side.start (omega (arith, p.start-size))
 
-  slope-small : nat_abs change * nat_abs u ≤ 160000 * nat_abs span
+  pub side-change-fits : SFits w64 side.change
+  side-change-fits = fits64 side.change (omega (arith, p.change-size))
+
+  pub side-span-fits : SFits w64 span
+  side-span-fits = fits64 span (omega (arith, p.span_high))
+
+  start_small : nat_abs (side.start *ℤ span) ≤ 80000 * nat_abs span
+  start_small = abs_product side.start span {l = nat_abs span} p.start-size (omega arith)
+
+  slope-small : nat_abs side.change * nat_abs u ≤ 160000 * nat_abs span
   slope-small = mul-le-mul p.change-size p.inside
 
-  pub start_fits : SFits w64 (start *ℤ span)
-  start_fits = fits64 (start *ℤ span) (omega (arith, start_small, p.span_high))
+  pub start_fits : SFits w64 (side.start *ℤ span)
+  start_fits = fits64 (side.start *ℤ span) (omega (arith, start_small, p.span_high))
 
-  pub side_along : nat_abs (start *ℤ span) + nat_abs change * nat_abs u < 9223372036854775808
+  pub side_along : nat_abs (side.start *ℤ span) + nat_abs side.change * nat_abs u < 9223372036854775808
   side_along = omega (arith, start_small, slope-small, p.span_high)
 
-  module _ {over : ℤ} (e-over : over ≡ start *ℤ span +ℤ change *ℤ u) where
+  pub over-is : {over : ℤ} → SFits w64 u → over ≡ to_z w64 (of_z w64 (to_z w64 (of_z w64 side.start) *ℤ to_z w64 (of_z w64 span))) +ℤ to_z w64 (of_z w64 side.change) *ℤ to_z w64 (of_z w64 u) → over ≡ side.start *ℤ span +ℤ side.change *ℤ u
+  over-is small e = simp (to_z-of_z, side-start-fits, side-change-fits, side-span-fits, start_fits, small) at e
+
+  module _ {over : ℤ} (e-over : over ≡ side.start *ℤ span +ℤ side.change *ℤ u) where
     pub side_lane : OfLane over span width
     side_lane = rw e-over (record {
-      over-size = omega (arith, abs_add (start *ℤ span) (change *ℤ u), abs_mul change u, start_small, slope-small);
+      over-size = omega (arith, abs_add (side.start *ℤ span) (side.change *ℤ u), abs_mul side.change u, start_small, slope-small);
       span_low = p.span_low;
       span_high = p.span_high;
       width-size = p.width-size;
@@ -141,34 +166,34 @@ module _ {start change span width u : ℤ} (p : OnSide start change span width u
     pub side_rounds : Doubles over span
     side_rounds = record { above = p.span_low; dividend = omega (arith, over-small side_lane); divisor = omega (arith, p.span_high) }
 
-    pub side_answer : {c d : ℤ} → c ≡ round over (nat_abs span) → d ≡ rounded ((over *ℤ width) ÷ (nat_abs span * 1000000)) → ◌≡◌ {A = Lane} (record { crossfall = c; drop = d }) (lane_of start change span width u)
+    pub side_answer : {c d : ℤ} → c ≡ round over (nat_abs span) → d ≡ rounded ((over *ℤ width) ÷ (nat_abs span * 1000000)) → ◌≡◌ {A = Lane} (record { crossfall = c; drop = d }) (lane_of side span width u)
     unfolding lane_of rounded
     side_answer {c} {d} e f = rw (e, f, e-over)
 
-  even-small : nat_abs (start *ℤ width) ≤ 80000 * 3500
-  even-small = abs_product start width p.start-size p.width-size
+  even-small : nat_abs (side.start *ℤ width) ≤ 80000 * 3500
+  even-small = abs_product side.start width p.start-size p.width-size
 
   -- a crossfall that stays as it is
-  module _ (even : change ≡ pos 0) where
-    even-over : start *ℤ span +ℤ change *ℤ u ≡ pos (nat_abs span) *ℤ start
+  module _ (even : side.change ≡ pos 0) where
+    even-over : side.start *ℤ span +ℤ side.change *ℤ u ≡ pos (nat_abs span) *ℤ side.start
     even-over =
-        ap₂ (λ (c s : ℤ). start *ℤ s +ℤ c *ℤ u) even (divisor span p.span_low)
-        ∙ eq! (int start ⊗ nat (nat_abs span) ⊕ nat 0 ⊗ int u) (nat (nat_abs span) ⊗ int start) (omega arith)
+        ap₂ (λ (c s : ℤ). side.start *ℤ s +ℤ c *ℤ u) even (divisor span p.span_low)
+        ∙ eq! (int side.start ⊗ nat (nat_abs span) ⊕ nat 0 ⊗ int u) (nat (nat_abs span) ⊗ int side.start) (omega arith)
 
-    even-crossfall : start ≡ round (start *ℤ span +ℤ change *ℤ u) (nat_abs span)
-    even-crossfall = round-multiple (nat_abs span) start (above_zero span p.span_low) even-over
+    even-crossfall : side.start ≡ round (side.start *ℤ span +ℤ side.change *ℤ u) (nat_abs span)
+    even-crossfall = round-multiple (nat_abs span) side.start (above_zero span p.span_low) even-over
 
-    even-drop : round (start *ℤ width) 1000000 ≡ round ((start *ℤ span +ℤ change *ℤ u) *ℤ width) (nat_abs span * 1000000)
+    even-drop : round (side.start *ℤ width) 1000000 ≡ round ((side.start *ℤ span +ℤ side.change *ℤ u) *ℤ width) (nat_abs span * 1000000)
     even-drop = rw even-over
-        (round-scale (nat_abs span) (start *ℤ width) 1000000 (above_zero span p.span_low) (omega arith)
-        ∙ ap (λ (n : ℤ). round n (nat_abs span * 1000000)) (ring (pos (nat_abs span) ∷ start ∷ width ∷ []) ($ 0 :* ($ 1 :* $ 2)) (($ 0 :* $ 1) :* $ 2) tt))
+        (round-scale (nat_abs span) (side.start *ℤ width) 1000000 (above_zero span p.span_low) (omega arith)
+        ∙ ap (λ (n : ℤ). round n (nat_abs span * 1000000)) (ring (pos (nat_abs span) ∷ side.start ∷ width ∷ []) ($ 0 :* ($ 1 :* $ 2)) (($ 0 :* $ 1) :* $ 2) tt))
 
-    pub even-answer : {d : ℤ} → d ≡ round (start *ℤ width) 1000000 → ◌≡◌ {A = Lane} (record { crossfall = start; drop = d }) (lane_of start change span width u)
+    pub even-answer : {d : ℤ} → d ≡ round (side.start *ℤ width) 1000000 → ◌≡◌ {A = Lane} (record { crossfall = side.start; drop = d }) (lane_of side span width u)
     unfolding lane_of rounded
     even-answer e = side_answer refl even-crossfall (e ∙ even-drop)
 
-  pub even-fits : SFits w64 (start *ℤ width)
-  even-fits = fits64 (start *ℤ width) (omega (arith, even-small))
+  pub even-fits : SFits w64 (side.start *ℤ width)
+  even-fits = fits64 (side.start *ℤ width) (omega (arith, even-small))
 
-  pub even_rounds : Doubles (start *ℤ width) (pos 1000000)
+  pub even_rounds : Doubles (side.start *ℤ width) (pos 1000000)
   even_rounds = record { above = lt! (nat 0) (nat 1000000) (omega arith); dividend = omega (arith, even-small); divisor = omega arith }

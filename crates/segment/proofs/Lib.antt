@@ -4,6 +4,4 @@ pub mod Signs
 pub mod Eggs
 pub mod Curve
 pub mod Fields
-pub mod Parts
-pub mod Written
 pub mod LineLaws

@@ -1,32 +1,57 @@
--- A line in two halves of four numbers; and that a segment that shows the road has the numbers of its line.
-use Rattle.std.specs.Prelude.{◌≡◌, List, [], ◌∷◌, ◌++◌, ℕ, suc, ◌*◌, ◌≤◌, ℤ, length}
-use Rattle.std.proofs.Common.{append_assoc}
+-- A line, number by number; and that a segment that shows the road has the numbers of its line.
+use Rattle.std.specs.Prelude.{◌≡◌, refl, List, [], ◌∷◌, ◌++◌, ℕ, zero, suc, ◌+◌, ◌*◌, ◌≤◌, ◌<◌, ℤ, pos, length, take, get_or}
+use Rattle.std.proofs.Common.{sym, ap, ◌∙◌, arith, append_assoc, append-nil, length-append, add-one}
+use Rattle.std.proofs.Math.Seq.{take-suc}
 use Rattle.integers.proofs.RoundingLaws.{rounded-value}
 use Rattle.decimal.specs.Decimal.{decimal, spaced}
+use Rattle.decimal.specs.Length.{Short, short-length, spaced-length}
 use Rattle.laws_of_lists.specs.All.{All}
 use Rattle.laws_of_lists.specs.All as all
-use Rattle.decimal.specs.Length.{Short, spaced-length}
 use Rattle.road.specs.File.{Road}
 use Rattle.road.specs.Exact.{left, right}
 use Rattle.road.specs.Line.{printed, printed_edge}
 use Rattle.segment.specs.Segment.{Shows, numbers_in, list_of}
 use Rattle.segment.specs.declared.Segment.{Segment}
-use Rattle.segment.specs.declared.Numbers.{Numbers}
 
--- a number and the byte after it
-abbrev pub field : ℤ → ℕ → List ℕ
-field v after = decimal v ++ (after ∷ [])
+-- numbers, each with a space behind it
+unfoldable pub fields : List ℤ → List ℕ
+fields [] = []
+fields (v ∷ vs) = (decimal v ++ (32 ∷ [])) ++ fields vs
 
--- four numbers, a space after each but the last
-unfoldable pub four : ℤ → ℤ → ℤ → ℤ → ℕ → List ℕ
-four a b c d after = field a 32 ++ (field b 32 ++ (field c 32 ++ field d after))
+fields-behind : (vs : List ℤ) (v : ℤ) → fields (vs ++ (v ∷ [])) ≡ fields vs ++ (decimal v ++ (32 ∷ []))
+unfolding fields
+fields-behind [] v = append-nil (decimal v ++ (32 ∷ []))
+fields-behind (w ∷ vs) v = ap (λ (l : List ℕ). (decimal w ++ (32 ∷ [])) ++ l) (fields-behind vs v) ∙ sym (append_assoc (decimal w ++ (32 ∷ [])) (fields vs) (decimal v ++ (32 ∷ [])))
 
-pub two_halves : (a b c d e f g h : ℤ) → four a b c d 32 ++ four e f g h 10 ≡ spaced (a ∷ b ∷ c ∷ d ∷ e ∷ f ∷ g ∷ h ∷ [])
-unfolding four spaced
-two_halves a b c d e f g h = simp append_assoc
+pub fields-more : (vs : List ℤ) (i : ℕ) → i < length vs → fields (take (i + 1) vs) ≡ fields (take i vs) ++ (decimal (get_or vs i (pos 0)) ++ (32 ∷ []))
+fields-more vs i h = ap (λ (k : ℕ). fields (take k vs)) (add-one i) ∙ ap fields (take-suc vs i (pos 0) h) ∙ fields-behind (take i vs) (get_or vs i (pos 0))
 
-pub line_halves : (n : Numbers) → four n.station n.height n.grade n.left 32 ++ four n.right n.left_edge n.right_edge n.curvature 10 ≡ spaced (list_of n)
-line_halves n = two_halves n.station n.height n.grade n.left n.right n.left_edge n.right_edge n.curvature
+-- short numbers take at most 12 bytes each
+pub fields-short : (vs : List ℤ) (i : ℕ) → All Short vs → length (fields (take i vs)) ≤ 12 * i
+unfolding fields
+fields-short vs zero a = omega arith
+fields-short [] (suc i) a = omega arith
+fields-short (v ∷ vs) (suc i) (all.more h a) =
+    omega (arith, length-append (decimal v ++ (32 ∷ [])) (fields (take i vs)), length-append (decimal v) (32 ∷ []), short-length v h, fields-short vs i a)
+
+-- all but the byte behind the last number
+unfoldable pub unended : List ℤ → List ℕ
+unended [] = []
+unended (v ∷ []) = decimal v
+unended (v ∷ w ∷ vs) = decimal v ++ (32 ∷ unended (w ∷ vs))
+
+pub fields-end : (v : ℤ) (vs : List ℤ) → fields (v ∷ vs) ≡ unended (v ∷ vs) ++ (32 ∷ [])
+unfolding fields unended
+fields-end v [] = append-nil (decimal v ++ (32 ∷ []))
+fields-end v (w ∷ vs) =
+    ap (λ (l : List ℕ). (decimal v ++ (32 ∷ [])) ++ l) (fields-end w vs)
+    ∙ append_assoc (decimal v) (32 ∷ []) (unended (w ∷ vs) ++ (32 ∷ []))
+    ∙ sym (append_assoc (decimal v) (32 ∷ unended (w ∷ vs)) (32 ∷ []))
+
+pub spaced-end : (v : ℤ) (vs : List ℤ) → unended (v ∷ vs) ++ (10 ∷ []) ≡ spaced (v ∷ vs)
+unfolding spaced unended
+spaced-end v [] = refl
+spaced-end v (w ∷ vs) = append_assoc (decimal v) (32 ∷ unended (w ∷ vs)) (10 ∷ []) ∙ ap (λ (l : List ℕ). decimal v ++ (32 ∷ l)) (spaced-end w vs)
 
 pub short-line : {v : ℤ} {vs : List ℤ} → All Short (v ∷ vs) → length (spaced (v ∷ vs)) ≤ 12 * suc (length vs)
 short-line {v} {vs} (all.more h a) = spaced-length v vs h a

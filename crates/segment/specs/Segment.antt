@@ -6,6 +6,7 @@ use Rattle.decimal.specs.Decimal.{spaced}
 use Rattle.road.specs.File.{Road}
 use Rattle.road.specs.Exact.{Side, left, right, height, grade, crossfall, edge_drop, curvature}
 use Rattle.segment.specs.declared.End.{End}
+use Rattle.segment.specs.declared.Ramp.{Ramp}
 use Rattle.segment.specs.declared.Segment.{Segment}
 use Rattle.segment.specs.declared.Numbers.{Numbers}
 
@@ -15,36 +16,32 @@ past from x = pos x -ℤ from
 
 -- the tangent's height, prolonged, in millionths
 abbrev pub on_tangent : Segment → ℕ → ℤ
-on_tangent s x = s.height +ℤ s.grade *ℤ past s.from x
+on_tangent s x = s.piece.height +ℤ s.piece.grade *ℤ past s.piece.from x
 
 -- half lengths and spans are above zero as whole numbers; as denominators they are naturals
 unfoldable pub height_in : Segment → ℕ → Frac
 height_in s x =
-    if eqb (nat_abs s.half) 0 then on_tangent s x ÷ 1000000
-    else (on_tangent s x *ℤ pos (4 * nat_abs s.half) +ℤ s.change *ℤ (past s.from x *ℤ past s.from x)) ÷ (4 * nat_abs s.half * 1000000)
+    if eqb (nat_abs s.piece.half) 0 then on_tangent s x ÷ 1000000
+    else (on_tangent s x *ℤ pos (4 * nat_abs s.piece.half) +ℤ s.piece.change *ℤ (past s.piece.from x *ℤ past s.piece.from x)) ÷ (4 * nat_abs s.piece.half * 1000000)
 
 unfoldable pub grade_in : Segment → ℕ → Frac
 grade_in s x =
-    if eqb (nat_abs s.half) 0 then whole s.grade
-    else (s.grade *ℤ pos (2 * nat_abs s.half) +ℤ s.change *ℤ past s.from x) ÷ (2 * nat_abs s.half)
+    if eqb (nat_abs s.piece.half) 0 then whole s.piece.grade
+    else (s.piece.grade *ℤ pos (2 * nat_abs s.piece.half) +ℤ s.piece.change *ℤ past s.piece.from x) ÷ (2 * nat_abs s.piece.half)
 
-abbrev pub side_start : Side → Segment → ℤ
-side_start left s = s.left
-side_start right s = s.right
-
-abbrev pub side_change : Side → Segment → ℤ
-side_change left s = s.left_change
-side_change right s = s.right_change
+abbrev pub ramp : Side → Segment → Ramp
+ramp left s = s.sides.left
+ramp right s = s.sides.right
 
 -- the crossfall's numerator, over the span
 abbrev pub crossfall_over : Side → Segment → ℕ → ℤ
-crossfall_over d s x = side_start d s *ℤ s.span +ℤ side_change d s *ℤ past s.point x
+crossfall_over d s x = (ramp d s).start *ℤ s.sides.span +ℤ (ramp d s).change *ℤ past s.sides.point x
 
 unfoldable pub crossfall_in : Side → Segment → ℕ → Frac
-crossfall_in d s x = crossfall_over d s x ÷ nat_abs s.span
+crossfall_in d s x = crossfall_over d s x ÷ nat_abs s.sides.span
 
 unfoldable pub drop_in : Side → Segment → ℕ → Frac
-drop_in d s x = (crossfall_over d s x *ℤ s.lane) ÷ (nat_abs s.span * 1000000)
+drop_in d s x = (crossfall_over d s x *ℤ s.lane) ÷ (nat_abs s.sides.span * 1000000)
 
 -- the curvature at an end of an element
 abbrev pub value_of : End → Frac
@@ -53,8 +50,8 @@ value_of e = e.turn ÷ nat_abs e.radius
 -- evenly from one end to the other: 10⁹/R1 × (L − d)/L + 10⁹/R2 × d/L, with 0 for 10⁹/R at a straight
 unfoldable pub curvature_in : Segment → ℕ → Frac
 curvature_in s x =
-    value_of s.start ×ᶠ ((s.length -ℤ past s.element x) ÷ nat_abs s.length)
-    +ᶠ value_of s.end ×ᶠ (past s.element x ÷ nat_abs s.length)
+    value_of s.curvature.start ×ᶠ ((s.curvature.length -ℤ past s.element x) ÷ nat_abs s.curvature.length)
+    +ᶠ value_of s.curvature.end ×ᶠ (past s.element x ÷ nat_abs s.curvature.length)
 
 -- the printed numbers of a station of the segment
 unfoldable pub numbers_in : Segment → ℕ → Numbers
@@ -92,32 +89,32 @@ pub data Joined (start end : End) : Type 0 where
   same-arc : start ≡ end → Joined start end
   egg : start.turn ≡ end.turn → nat_abs start.radius ≤ 1000000 → nat_abs end.radius ≤ 1000000 → Joined start end
 
--- what the code asks of a segment and a station, so that everything fits 64 bits
+-- what the code asks of a segment and a station, so that everything fits 64 bits; no invariant of the type, since its parts are made of any numbers
 pub record Sound (s : Segment) (x : ℕ) : Type 0 where
   pub station : x ≤ 100000000
   pub height : nat_abs (on_tangent s x) ≤ 27240000000000
-  pub grade : nat_abs s.grade ≤ 120000
-  pub change : nat_abs s.change ≤ 240000
-  pub half-low : pos 0 ≤ℤ s.half
-  pub half_high : nat_abs s.half ≤ 1000000
-  pub from-size : nat_abs s.from ≤ 100000000
-  pub height-size : nat_abs s.height ≤ 27240000000000
+  pub grade : nat_abs s.piece.grade ≤ 120000
+  pub change : nat_abs s.piece.change ≤ 240000
+  pub half-low : pos 0 ≤ℤ s.piece.half
+  pub half_high : nat_abs s.piece.half ≤ 1000000
+  pub from-size : nat_abs s.piece.from ≤ 100000000
+  pub height-size : nat_abs s.piece.height ≤ 27240000000000
   -- in a curve: between its ends
-  pub in_curve_lem : 0 < nat_abs s.half → (pos 0 ≤ℤ past s.from x) × (nat_abs (past s.from x) ≤ 2 * nat_abs s.half)
-  pub span_low : pos 0 <ℤ s.span
-  pub span_high : nat_abs s.span ≤ 100000000
-  pub point-low : pos 0 ≤ℤ past s.point x
-  pub point-high : nat_abs (past s.point x) ≤ nat_abs s.span
-  pub sides : (d : Side) → (nat_abs (side_start d s) ≤ 80000) × (nat_abs (side_change d s) ≤ 160000)
+  pub in_curve_lem : 0 < nat_abs s.piece.half → (pos 0 ≤ℤ past s.piece.from x) × (nat_abs (past s.piece.from x) ≤ 2 * nat_abs s.piece.half)
+  pub span_low : pos 0 <ℤ s.sides.span
+  pub span_high : nat_abs s.sides.span ≤ 100000000
+  pub point-low : pos 0 ≤ℤ past s.sides.point x
+  pub point-high : nat_abs (past s.sides.point x) ≤ nat_abs s.sides.span
+  pub sides : (d : Side) → (nat_abs ((ramp d s).start) ≤ 80000) × (nat_abs ((ramp d s).change) ≤ 160000)
   pub lane_low : pos 0 ≤ℤ s.lane
   pub lane : nat_abs s.lane ≤ 3500
   pub element-low : pos 0 ≤ℤ past s.element x
-  pub element-high : nat_abs (past s.element x) ≤ nat_abs s.length
-  pub length-low : pos 0 <ℤ s.length
-  pub length_high : nat_abs s.length ≤ 10000000
-  pub start-size : SizedEnd s.start
-  pub end-size : SizedEnd s.end
-  pub joined : Joined s.start s.end
+  pub element-high : nat_abs (past s.element x) ≤ nat_abs s.curvature.length
+  pub length-low : pos 0 <ℤ s.curvature.length
+  pub length_high : nat_abs s.curvature.length ≤ 10000000
+  pub start-size : SizedEnd s.curvature.start
+  pub end-size : SizedEnd s.curvature.end
+  pub joined : Joined s.curvature.start s.curvature.end
 
 -- the segment says what the exact road says at a station
 pub record Shows (r : Road) (s : Segment) (x : ℕ) : Type 0 where

@@ -4,6 +4,8 @@ use Rattle.integers.specs.Fraction.{◌÷◌}
 use Rattle.integers.specs.Rounding.{rounded}
 use Rattle.segment.specs.Segment.{SizedEnd}
 use Rattle.segment.specs.declared.End.{End}
+use Rattle.segment.specs.declared.Ramp.{Ramp}
+use Rattle.segment.specs.declared.Curvature.{Curvature}
 use Rattle.segment.specs.declared.Lane.{Lane}
 
 -- u past the start of a vertical curve, of which `first`, its first tangent's height or grade, is within a bound
@@ -22,16 +24,16 @@ pub record OfEnd (e : End) (length distance : ℤ) : Type 0 where
   pub inside : nat_abs distance ≤ nat_abs length
 
 -- a distance past the start of an egg; that its radii differ is not needed
-pub record OnEgg (start end : End) (length past : ℤ) : Type 0 where
-  pub start-size : SizedEnd start
-  pub end-size : SizedEnd end
-  pub same_turn : start.turn ≡ end.turn
-  pub start-high : nat_abs start.radius ≤ 1000000
-  pub end-high : nat_abs end.radius ≤ 1000000
-  pub length-low : pos 0 <ℤ length
-  pub length_high : nat_abs length ≤ 10000000
+pub record OnEgg (c : Curvature) (past : ℤ) : Type 0 where
+  pub start-size : SizedEnd c.start
+  pub end-size : SizedEnd c.end
+  pub same_turn : c.start.turn ≡ c.end.turn
+  pub start-high : nat_abs c.start.radius ≤ 1000000
+  pub end-high : nat_abs c.end.radius ≤ 1000000
+  pub length-low : pos 0 <ℤ c.length
+  pub length_high : nat_abs c.length ≤ 10000000
   pub past-low : pos 0 ≤ℤ past
-  pub inside : nat_abs past ≤ nat_abs length
+  pub inside : nat_abs past ≤ nat_abs c.length
 
 -- the same without signs, of the radii at its start and at its end
 pub record EggSizes (turn first second length past : ℕ) : Type 0 where
@@ -52,17 +54,17 @@ pub record OfLane (over span width : ℤ) : Type 0 where
   pub width-size : nat_abs width ≤ 3500
 
 -- a side, a distance past a crossfall point
-pub record OnSide (start change span width distance : ℤ) : Type 0 where
-  pub start-size : nat_abs start ≤ 80000
-  pub change-size : nat_abs change ≤ 160000
+pub record OnSide (side : Ramp) (span width distance : ℤ) : Type 0 where
+  pub start-size : nat_abs side.start ≤ 80000
+  pub change-size : nat_abs side.change ≤ 160000
   pub span_low : pos 0 <ℤ span
   pub span_high : nat_abs span ≤ 100000000
   pub width-size : nat_abs width ≤ 3500
   pub inside : nat_abs distance ≤ nat_abs span
 
 -- a side's numbers there: "The drop is crossfall × lane width / 10⁶, from the exact crossfall."
-unfoldable pub lane_of : ℤ → ℤ → ℤ → ℤ → ℤ → Lane
-lane_of start change span width distance = record {
-  crossfall = rounded ((start *ℤ span +ℤ change *ℤ distance) ÷ nat_abs span);
-  drop = rounded (((start *ℤ span +ℤ change *ℤ distance) *ℤ width) ÷ (nat_abs span * 1000000));
+unfoldable pub lane_of : Ramp → ℤ → ℤ → ℤ → Lane
+lane_of side span width distance = record {
+  crossfall = rounded ((side.start *ℤ span +ℤ side.change *ℤ distance) ÷ nat_abs span);
+  drop = rounded (((side.start *ℤ span +ℤ side.change *ℤ distance) *ℤ width) ÷ (nat_abs span * 1000000));
 }

@@ -5,11 +5,40 @@
 ghost use Rattle.std.specs.Prelude.{◌≡◌, ◌+◌, ◌*◌, ◌-◌, ◌≤◌, ◌<◌, pos, ◌+ℤ◌, ◌-ℤ◌, ◌*ℤ◌, nat_abs, length};
 ghost use Rattle.integers.specs.Fraction.{◌÷◌, ◌+ᶠ◌, ◌×ᶠ◌};
 ghost use Rattle.integers.specs.Rounding.{nearest_size, rounded};
-ghost use Rattle.decimal.specs.Pairs.{pair_table};
 ghost use Rattle.decimal.specs.Written.{Wrote};
-ghost use Rattle.segment.specs.Segment.{Sound, past, value_of, height_in, grade_in, curvature_in, numbers_in, line_in};
-ghost use Rattle.segment.specs.Line.{four};
+ghost use Rattle.segment.specs.Segment.{Sound, past, value_of, height_in, grade_in, curvature_in, numbers_in, list_of, line_in};
 ghost use Rattle.segment.specs.Sizes.{InCurve, OfEnd, OnEgg, EggSizes, OfLane, OnSide, lane_of};
+
+// The straight part of a tangent or a vertical curve.
+#[derive(Clone, Copy)]
+pub struct Piece {
+    // where the tangent or the vertical curve begins
+    pub from: i64,
+    // the height there, in millionths of a millimetre, and the grade there
+    pub height: i64,
+    pub grade: i64,
+    // the change of grade and the half length of the vertical curve; 0 and 0 on a tangent
+    pub change: i64,
+    pub half: i64,
+    // the station where the piece ends
+    pub end: u64,
+}
+
+// The crossfall of a side at a crossfall point, and its change up to the next point.
+#[derive(Clone, Copy)]
+pub struct Ramp {
+    pub start: i64,
+    pub change: i64,
+}
+
+// A crossfall point, the distance to the next, and the crossfalls of both sides.
+#[derive(Clone, Copy)]
+pub struct Sides {
+    pub point: i64,
+    pub span: i64,
+    pub left: Ramp,
+    pub right: Ramp,
+}
 
 // The curvature at an end of an element, turn / radius: of an arc 10⁹ with the radius' sign over the radius' size, of a straight 0 over 1.
 #[derive(Clone, Copy)]
@@ -18,31 +47,23 @@ pub struct End {
     pub radius: i64,
 }
 
+// The curvature of an element of a length, at its start and at its end.
+#[derive(Clone, Copy)]
+pub struct Curvature {
+    pub length: i64,
+    pub start: End,
+    pub end: End,
+}
+
 // A segment of the road, with no joint inside, as numbers only: all that the rows up to its end need.
 #[derive(Clone, Copy)]
 pub struct Segment {
-    // where the segment's tangent or vertical curve begins
-    pub from: i64,
-    // the height there, in millionths of a millimetre, and the grade there
-    pub height: i64,
-    pub grade: i64,
-    // the change of grade and the half length of the vertical curve; 0 and 0 on a tangent
-    pub change: i64,
-    pub half: i64,
-    // the crossfall point before, the distance to the next, the crossfalls there and their changes
-    pub point: i64,
-    pub span: i64,
-    pub left: i64,
-    pub left_change: i64,
-    pub right: i64,
-    pub right_change: i64,
+    pub piece: Piece,
+    pub sides: Sides,
     pub lane: i64,
-    // where the element begins, and its length
+    // where the element begins
     pub element: i64,
-    pub length: i64,
-    // the curvature at its start and at its end
-    pub start: End,
-    pub end: End,
+    pub curvature: Curvature,
 }
 
 // The eight numbers of a row.
@@ -82,77 +103,72 @@ fn along(start: i64, slope: i64, distance: i64) -> i64
     start + slope * distance
 }
 
-// The same at a station.
-fn line_at(start: i64, slope: i64, from: i64, x: u64) -> i64
-    requires station_small { x ≤ 100000000 }
-    requires near { nat_abs (past from x) ≤ 1000000000 }
-    requires fits { nat_abs start + nat_abs slope * nat_abs (past from x) < 9223372036854775808 }
-    ensures { result ≡ start +ℤ slope *ℤ past from x }
-{
-    along(start, slope, distance(from, x))
-}
+impl Piece {
+    // The height u past the start of a vertical curve, whose first tangent, prolonged, is there at `line` millionths.
+    fn curve_height(&self, line: i64, u: i64) -> i64
+        requires { InCurve 27240000000000 line self.now.change self.now.half u }
+        ensures { result ≡ rounded ((line *ℤ pos (4 * nat_abs self.now.half) +ℤ self.now.change *ℤ (u *ℤ u)) ÷ (4 * nat_abs self.now.half * 1000000)) }
+    {
+        let deviation = self.change * (u * u);
+        let scale = 4 * self.half;
+        let raised = line + integers::div_floor(deviation, scale);
+        // what the two divisions leave, over 4h × 10⁶
+        let rest = integers::rem_floor(raised, 1_000_000) * scale
+            + integers::rem_floor(deviation, scale);
+        integers::round_parts(
+            integers::div_floor(raised, 1_000_000),
+            rest,
+            scale * 1_000_000,
+        )
+    }
 
-// The height u past the start of a vertical curve, whose first tangent, prolonged, is there at `line` millionths.
-fn curve_height(line: i64, change: i64, half: i64, u: i64) -> i64
-    requires { InCurve 27240000000000 line change half u }
-    ensures { result ≡ rounded ((line *ℤ pos (4 * nat_abs half) +ℤ change *ℤ (u *ℤ u)) ÷ (4 * nat_abs half * 1000000)) }
-{
-    let deviation = change * (u * u);
-    let scale = 4 * half;
-    let raised = line + integers::div_floor(deviation, scale);
-    // what the two divisions leave, over 4h × 10⁶
-    let rest = integers::rem_floor(raised, 1000000) * scale + integers::rem_floor(deviation, scale);
-    integers::round_parts(integers::div_floor(raised, 1000000), rest, scale * 1000000)
-}
-
-// The grade u past the start of a vertical curve.
-fn curve_grade(grade: i64, change: i64, half: i64, u: i64) -> i64
-    requires { InCurve 120000 grade change half u }
-    ensures { result ≡ rounded ((grade *ℤ pos (2 * nat_abs half) +ℤ change *ℤ u) ÷ (2 * nat_abs half)) }
-{
-    let length = 2 * half;
-    integers::round_div(along(grade * length, change, u), length)
-}
-
-// The height at a station.
-pub fn height_at(s: Segment, x: u64) -> i64
-    requires { Sound s x }
-    ensures { result ≡ rounded (height_in s x) }
-{
-    let line = line_at(s.height, s.grade, s.from, x);
-    if s.half == 0 {
-        integers::round_div(line, 1000000)
-    } else {
-        curve_height(line, s.change, s.half, distance(s.from, x))
+    // The grade u past the start of a vertical curve.
+    fn curve_grade(&self, u: i64) -> i64
+        requires { InCurve 120000 self.now.grade self.now.change self.now.half u }
+        ensures { result ≡ rounded ((self.now.grade *ℤ pos (2 * nat_abs self.now.half) +ℤ self.now.change *ℤ u) ÷ (2 * nat_abs self.now.half)) }
+    {
+        let length = 2 * self.half;
+        integers::round_div(along(self.grade * length, self.change, u), length)
     }
 }
 
-// The grade at a station.
-pub fn grade_at(s: Segment, x: u64) -> i64
-    requires { Sound s x }
-    ensures { result ≡ rounded (grade_in s x) }
-{
-    if s.half == 0 {
-        s.grade
-    } else {
-        curve_grade(s.grade, s.change, s.half, distance(s.from, x))
+impl Sides {
+    // The drop of an edge, from the exact crossfall, which is `over` over the span.
+    fn drop_of(&self, over: i64, width: i64) -> i64
+        requires { OfLane over self.now.span width }
+        ensures { result ≡ rounded ((over *ℤ width) ÷ (nat_abs self.now.span * 1000000)) }
+    {
+        integers::round_div(over * width, self.span * 1_000_000)
+    }
+
+    // A side's two numbers at a distance past the crossfall point.
+    fn lane_at(&self, side: Ramp, width: i64, distance: i64) -> Lane
+        requires { OnSide side self.now.span width distance }
+        ensures { result ≡ lane_of side self.now.span width distance }
+    {
+        // an even crossfall needs no division by the span
+        if side.change == 0 {
+            return Lane {
+                crossfall: side.start,
+                drop: integers::round_div(side.start * width, 1_000_000),
+            };
+        }
+        let over = along(side.start * self.span, side.change, distance);
+        Lane {
+            crossfall: integers::round_div(over, self.span),
+            drop: self.drop_of(over, width),
+        }
     }
 }
 
-// What one end of an element gives at a distance from its other end: evenly from 0 there to the curvature here.
-fn share(e: End, length: i64, distance: i64) -> i64
-    requires { OfEnd e length distance }
-    ensures { result ≡ rounded (value_of e ×ᶠ (distance ÷ nat_abs length)) }
-{
-    integers::round_div(e.turn * distance, e.radius * length)
-}
-
-// A turn without its sign.
-fn size_of(turn: i64) -> u64
-    requires { nat_abs turn ≤ 1000000000 }
-    ensures { result ≡ nat_abs turn }
-{
-    if turn < 0 { -turn as u64 } else { turn as u64 }
+impl End {
+    // What it gives at a distance from the element's other end: evenly from 0 there to the curvature here.
+    fn share(self, length: i64, distance: i64) -> i64
+        requires { OfEnd self length distance }
+        ensures { result ≡ rounded (value_of self ×ᶠ (distance ÷ nat_abs length)) }
+    {
+        integers::round_div(self.turn * distance, self.radius * length)
+    }
 }
 
 // The size of an egg's curvature, of its radii at start and end. Its fraction does not fit; what each end gives does, and so do both rests over one denominator.
@@ -173,133 +189,127 @@ fn egg_size(turn: u64, first: u64, second: u64, length: u64, past: u64) -> u64
     )
 }
 
-// The curvature on an egg, evenly from one end's to the other's: the sign is taken off, the size rounded, and the sign put back.
-fn egg(start: End, end: End, length: i64, past: i64) -> i64
-    requires { OnEgg start end length past }
-    ensures { result ≡ rounded (value_of start ×ᶠ ((length -ℤ past) ÷ nat_abs length) +ᶠ value_of end ×ᶠ (past ÷ nat_abs length)) }
-{
-    let turn = size_of(start.turn);
-    let first = start.radius as u64;
-    let second = end.radius as u64;
-    let size = egg_size(turn, first, second, length as u64, past as u64) as i64;
-    if start.turn < 0 { -size } else { size }
+impl Curvature {
+    // The curvature on an egg, evenly from one end's to the other's: the sign is taken off, the size rounded, and the sign put back.
+    fn egg(&self, past: i64) -> i64
+        requires { OnEgg self.now past }
+        ensures { result ≡ rounded (value_of self.now.start ×ᶠ ((self.now.length -ℤ past) ÷ nat_abs self.now.length) +ᶠ value_of self.now.end ×ᶠ (past ÷ nat_abs self.now.length)) }
+    {
+        let turn = self.start.turn.unsigned_abs();
+        let first = self.start.radius as u64;
+        let second = self.end.radius as u64;
+        let size = egg_size(turn, first, second, self.length as u64, past as u64) as i64;
+        if self.start.turn < 0 { -size } else { size }
+    }
 }
 
-// The curvature at a station.
-pub fn curvature_at(s: Segment, x: u64) -> i64
-    requires { Sound s x }
-    ensures { result ≡ rounded (curvature_in s x) }
-{
-    let start = s.start;
-    let end = s.end;
-    let past = distance(s.element, x);
-    if start.turn == 0 {
-        // a straight needs no division
-        if end.turn == 0 {
-            return 0;
+impl Numbers {
+    // In the order of a line.
+    fn in_order(self) -> [i64; 8]
+        ensures { result ≡ list_of self }
+    {
+        [
+            self.station,
+            self.height,
+            self.grade,
+            self.left,
+            self.right,
+            self.left_edge,
+            self.right_edge,
+            self.curvature,
+        ]
+    }
+}
+
+impl Segment {
+    // The height at a station.
+    pub fn height_at(&self, x: u64) -> i64
+        requires { Sound self.now x }
+        ensures { result ≡ rounded (height_in self.now x) }
+    {
+        let piece = self.piece;
+        let u = distance(piece.from, x);
+        let line = along(piece.height, piece.grade, u);
+        if piece.half == 0 {
+            integers::round_div(line, 1_000_000)
+        } else {
+            piece.curve_height(line, u)
         }
-        return share(end, s.length, past);
     }
-    if end.turn == 0 {
-        return share(start, s.length, s.length - past);
-    }
-    if start.radius == end.radius {
-        // the same arc at both ends
-        return integers::round_div(start.turn, start.radius);
-    }
-    egg(start, end, s.length, past)
-}
 
-// The drop of an edge, from the exact crossfall over / span.
-fn drop_of(over: i64, span: i64, width: i64) -> i64
-    requires { OfLane over span width }
-    ensures { result ≡ rounded ((over *ℤ width) ÷ (nat_abs span * 1000000)) }
-{
-    integers::round_div(over * width, span * 1000000)
-}
-
-// A side's two numbers at a distance past its crossfall point.
-fn lane_at(start: i64, change: i64, span: i64, width: i64, distance: i64) -> Lane
-    requires { OnSide start change span width distance }
-    ensures { result ≡ lane_of start change span width distance }
-{
-    // an even crossfall needs no division by the span
-    if change == 0 {
-        let drop = integers::round_div(start * width, 1000000);
-        return Lane {
-            crossfall: start,
-            drop: drop,
-        };
+    // The grade at a station.
+    pub fn grade_at(&self, x: u64) -> i64
+        requires { Sound self.now x }
+        ensures { result ≡ rounded (grade_in self.now x) }
+    {
+        let piece = self.piece;
+        if piece.half == 0 {
+            piece.grade
+        } else {
+            piece.curve_grade(distance(piece.from, x))
+        }
     }
-    let over = along(start * span, change, distance);
-    let crossfall = integers::round_div(over, span);
-    let drop = drop_of(over, span, width);
-    Lane {
-        crossfall: crossfall,
-        drop: drop,
+
+    // The curvature at a station.
+    pub fn curvature_at(&self, x: u64) -> i64
+        requires { Sound self.now x }
+        ensures { result ≡ rounded (curvature_in self.now x) }
+    {
+        let curvature = self.curvature;
+        let past = distance(self.element, x);
+        if curvature.start.turn == 0 {
+            // a straight needs no division
+            if curvature.end.turn == 0 {
+                return 0;
+            }
+            return curvature.end.share(curvature.length, past);
+        }
+        if curvature.end.turn == 0 {
+            return curvature
+                .start
+                .share(curvature.length, curvature.length - past);
+        }
+        if curvature.start.radius == curvature.end.radius {
+            // the same arc at both ends
+            return integers::round_div(curvature.start.turn, curvature.start.radius);
+        }
+        curvature.egg(past)
     }
-}
 
-// The printed numbers of a station.
-pub fn numbers_at(s: Segment, x: u64) -> Numbers
-    requires { Sound s x }
-    ensures { result ≡ numbers_in s x }
-{
-    let u = distance(s.point, x);
-    let left = lane_at(s.left, s.left_change, s.span, s.lane, u);
-    let right = lane_at(s.right, s.right_change, s.span, s.lane, u);
-    let height = height_at(s, x);
-    Numbers {
-        station: x as i64,
-        height: height,
-        grade: grade_at(s, x),
-        left: left.crossfall,
-        right: right.crossfall,
-        left_edge: height + left.drop,
-        right_edge: height + right.drop,
-        curvature: curvature_at(s, x),
+    // The printed numbers of a station.
+    pub fn numbers_at(&self, x: u64) -> Numbers
+        requires { Sound self.now x }
+        ensures { result ≡ numbers_in self.now x }
+    {
+        let sides = self.sides;
+        let u = distance(sides.point, x);
+        let left = sides.lane_at(sides.left, self.lane, u);
+        let right = sides.lane_at(sides.right, self.lane, u);
+        let height = self.height_at(x);
+        Numbers {
+            station: x as i64,
+            height,
+            grade: self.grade_at(x),
+            left: left.crossfall,
+            right: right.crossfall,
+            left_edge: height + left.drop,
+            right_edge: height + right.drop,
+            curvature: self.curvature_at(x),
+        }
     }
-}
 
-// Writes four numbers from `at` on, a space after each but the last, which has the byte `after` behind it, and returns the place after that.
-fn put_four(
-    pairs: &[u8; 200],
-    out: &mut [u8],
-    at: usize,
-    a: i64,
-    b: i64,
-    c: i64,
-    d: i64,
-    after: u8,
-) -> usize
-    requires table { pairs.now ≡ pair_table }
-    requires room { at + length (four a b c d after) ≤ length out.old }
-    ensures { Wrote out.old out.new at (four a b c d after) result }
-{
-    let second = decimal::put_field(pairs, out, at, a, 32);
-    let third = decimal::put_field(pairs, out, second, b, 32);
-    let fourth = decimal::put_field(pairs, out, third, c, 32);
-    decimal::put_field(pairs, out, fourth, d, after)
-}
-
-// Writes the line of a station from `at` on, and returns the place after it.
-pub fn put_line(pairs: &[u8; 200], s: Segment, x: u64, out: &mut [u8], at: usize) -> usize
-    requires table { pairs.now ≡ pair_table }
-    requires sound { Sound s x }
-    requires room { at + 96 ≤ length out.old }
-    ensures wrote { Wrote out.old out.new at (line_in s x) result }
-    ensures most { result ≤ at + 96 }
-{
-    let n = numbers_at(s, x);
-    let half = put_four(pairs, out, at, n.station, n.height, n.grade, n.left, 32);
-    put_four(
-        pairs,
-        out,
-        half,
-        n.right,
-        n.left_edge,
-        n.right_edge,
-        n.curvature,
-        10,
-    )
+    // Writes the line of a station, and returns its length.
+    pub fn put_line(&self, x: u64, out: &mut [u8]) -> usize
+        requires sound { Sound self.now x }
+        requires room { 96 ≤ length out.old }
+        ensures wrote { Wrote out.old out.new 0 (line_in self.now x) result }
+        ensures most { result ≤ 96 }
+    {
+        let mut end = 0;
+        for v in self.numbers_at(x).in_order() {
+            end += decimal::put_field(&mut out[end..], v, b' ');
+        }
+        out[end - 1] = b'\n';
+        end
+    }
 }

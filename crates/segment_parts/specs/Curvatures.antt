@@ -21,7 +21,7 @@ use Rattle.laws_of_pieces.specs.Curvatures.{OnElement, element-positive, curvatu
 use Rattle.laws_of_acceptance.specs.Guaranteed.{Guaranteed}
 use Rattle.segment.specs.Segment.{value_of, SizedEnd, Joined, from_zero, to_zero, same-arc, egg}
 use Rattle.segment.specs.declared.End.{End}
-use Rattle.segment_parts.specs.declared.Curvature.{Curvature}
+use Rattle.segment.specs.declared.Curvature.{Curvature}
 use Rattle.segment_parts.specs.Ends.{turned, turned-size, end_of, curvature_at}
 
 -- evenly from one end to the other, d past the start of a length

@@ -5,7 +5,7 @@ use Rattle.road.specs.Exact.{element_of, is_arc, is_clothoid}
 use Rattle.road.specs.Rules.{element_before}
 use Rattle.road.specs.declared.Element.{Element}
 use Rattle.segment.specs.declared.End.{End}
-use Rattle.segment_parts.specs.declared.Curvature.{Curvature}
+use Rattle.segment.specs.declared.Curvature.{Curvature}
 
 -- 10⁹ with the sign of a radius
 abbrev pub turned : ℤ → ℤ

@@ -8,7 +8,7 @@ use Rattle.road.specs.Exact.{tangent_of, tangent_start, half_length, half_before
 use Rattle.road.specs.declared.Tangent.{Tangent}
 use Rattle.laws_of_acceptance.specs.Guaranteed.{Guaranteed}
 use Rattle.segment_parts.specs.declared.TangentPlace.{TangentPlace}
-use Rattle.segment_parts.specs.declared.Piece.{Piece}
+use Rattle.segment.specs.declared.Piece.{Piece}
 use Rattle.segment_parts.specs.Tangents.{height_start, grade_before_of, TangentFound, height-next}
 use Rattle.segment_parts.specs.Pieces.{curve_from, curve_before, curve_after, straight_part, PieceFrom, before, along, behind, straight_end, straight_of, PieceAt, straight, curve}
 use Rattle.segment_parts.specs.Profiles.{straight-end}

@@ -15,7 +15,7 @@ use Rattle.laws_of_search.specs.Last.{Rising, rises_to, Begun, begun-before}
 use Rattle.laws_of_acceptance.specs.Facts.{elements_rise, points-rise, points-end}
 use Rattle.laws_of_stations.specs.Stations.{Named, zero_station, end-station, multiple, element-end, curve-start, curve-end, bare-vertex, point, listed_exactly, stations_has, point-listed}
 use Rattle.laws_of_acceptance.specs.Guaranteed.{Guaranteed}
-use Rattle.segment_parts.specs.declared.Piece.{Piece}
+use Rattle.segment.specs.declared.Piece.{Piece}
 use Rattle.segment_parts.specs.Pieces.{PieceAt}
 use Rattle.segment_parts.specs.Sides.{point_station}
 use Rattle.segment_parts.specs.Segments.{joint_of}

@@ -13,7 +13,7 @@ use Rattle.laws_of_acceptance.specs.Facts.{curve-begins}
 use Rattle.laws_of_search.specs.Small.{abs_from}
 use Rattle.laws_of_stations.specs.Stations.{end-station, stations_has, starts-listed, ends-listed}
 use Rattle.laws_of_acceptance.specs.Guaranteed.{Guaranteed}
-use Rattle.segment_parts.specs.declared.Piece.{Piece}
+use Rattle.segment.specs.declared.Piece.{Piece}
 use Rattle.segment_parts.specs.Tangents.{height_start}
 use Rattle.segment_parts.specs.Pieces.{straight_end, straight_of, curve_of, Straight, Curve, PieceAt, straight, curve}
 use Rattle.segment_parts.specs.Tangents.{height-small}

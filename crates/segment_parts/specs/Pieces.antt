@@ -6,7 +6,7 @@ use Rattle.road.specs.declared.Tangent.{Tangent}
 use Rattle.laws_of_search.specs.Last.{Begun}
 use Rattle.segment_parts.specs.Tangents.{height_start}
 use Rattle.segment_parts.specs.declared.TangentPlace.{TangentPlace}
-use Rattle.segment_parts.specs.declared.Piece.{Piece}
+use Rattle.segment.specs.declared.Piece.{Piece}
 
 -- ---- by numbers
 -- a vertical curve between two grades that begins at a station

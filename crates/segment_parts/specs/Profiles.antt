@@ -16,9 +16,9 @@ use Rattle.laws_of_pieces.specs.Heights.{height-straight, height-curve}
 use Rattle.laws_of_pieces.specs.Grades.{grade-straight, grade-curve}
 use Rattle.laws_of_acceptance.specs.Guaranteed.{Guaranteed}
 use Rattle.segment.specs.Segment.{height_in, grade_in}
-use Rattle.segment_parts.specs.declared.Piece.{Piece}
-use Rattle.segment_parts.specs.declared.Sides.{Sides}
-use Rattle.segment_parts.specs.declared.Curvature.{Curvature}
+use Rattle.segment.specs.declared.Piece.{Piece}
+use Rattle.segment.specs.declared.Sides.{Sides}
+use Rattle.segment.specs.declared.Curvature.{Curvature}
 use Rattle.segment_parts.specs.Tangents.{height_start}
 use Rattle.segment_parts.specs.Pieces.{straight_end, straight_of, curve_of, Straight, Curve, PieceAt, straight, curve}
 use Rattle.segment_parts.specs.Segments.{segment_of}

@@ -16,10 +16,10 @@ use Rattle.laws_of_search.specs.Small.{abs_from}
 use Rattle.laws_of_pieces.specs.Curvatures.{OnElement}
 use Rattle.laws_of_pieces.specs.Crossfalls.{BetweenPoints, crossfall-between}
 use Rattle.laws_of_acceptance.specs.Guaranteed.{Guaranteed}
-use Rattle.segment.specs.Segment.{side_start, side_change, crossfall_in, drop_in, curvature_in, Sound, Shows}
+use Rattle.segment.specs.Segment.{ramp, crossfall_in, drop_in, curvature_in, Sound, Shows}
 use Rattle.segment.specs.declared.Segment.{Segment}
-use Rattle.segment_parts.specs.declared.Piece.{Piece}
-use Rattle.segment_parts.specs.declared.Curvature.{Curvature}
+use Rattle.segment.specs.declared.Piece.{Piece}
+use Rattle.segment.specs.declared.Curvature.{Curvature}
 use Rattle.segment_parts.specs.Pieces.{PieceAt}
 use Rattle.segment_parts.specs.Sides.{point_station, sides_of}
 use Rattle.segment_parts.specs.Segments.{segment_of}
@@ -72,7 +72,7 @@ module _ {r : Road} (G : Guaranteed r) where
     unfolding edge_drop drop_in crossfall_in
     drop-is d = mul-value (pos (lane_width r) ÷ 1000000) (omega arith) (crossfall-is d)
 
-    sides-small : (d : Side) → (nat_abs (side_start d here) ≤ 80000) × (nat_abs (side_change d here) ≤ 160000)
+    sides-small : (d : Side) → (nat_abs (ramp d here).start ≤ 80000) × (nat_abs (ramp d here).change ≤ 160000)
     sides-small left =
         let h = B.place in
         let c = G.crossfall left k (omega arith) in

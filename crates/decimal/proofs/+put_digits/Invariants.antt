@@ -1,0 +1,5 @@
+-- The front part is a smaller number.
+use Rattle.decimal.proofs.+put_digits.Given as goal
+
+abbrev pub decreases-put_digits : goal.decreases-put_digits
+decreases-put_digits l = l.n
