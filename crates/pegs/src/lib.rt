@@ -19,14 +19,13 @@ fn put_rows(road: &AcceptedRoad, stations: &[u64], out: &mut [u8]) -> usize
     ensures value { result ≡ length (lines road.now stations.now) }
     ensures out_after { out.new ≡ overwrite (lines road.now stations.now) out.old }
 {
-    let pairs = decimal::pairs();
     let mut view = cursors::view_at(road, cursors::start(road), 0);
     let mut bytes: usize = 0;
     for &station in stations {
         if view.joint <= station {
             view = cursors::view_at(road, view.place, station);
         }
-        bytes = segment::put_line(&pairs, view.segment, station, out, bytes);
+        bytes += view.segment.put_line(station, &mut out[bytes..]);
     }
     bytes
 }

@@ -18,8 +18,7 @@ fn put_row(road: &AcceptedRoad, station: u64, line: &mut [u8]) -> usize
     ensures line_after { line.new ≡ overwrite (line_at road.now station) line.old }
 {
     let view = cursors::view_at(road, cursors::start(road), station);
-    let pairs = decimal::pairs();
-    segment::put_line(&pairs, view.segment, station, line, 0)
+    view.segment.put_line(station, line)
 }
 
 // The row of a station of an accepted road; refusals 20 and 21.

@@ -79,7 +79,6 @@ fn rows_on(road: &AcceptedRoad, first: u64, out: &mut [u8]) -> Chunk
     ensures out_after { out.new ≡ overwrite (chunk road.now first (length out.old)).text out.old }
 {
     let step = road.step();
-    let pairs = decimal::pairs();
     let mut walk = Walk::begin(road, first);
     let mut bytes: usize = 0;
     while walk.station <= road.total() {
@@ -90,7 +89,7 @@ fn rows_on(road: &AcceptedRoad, first: u64, out: &mut [u8]) -> Chunk
                     next: Some(walk.station),
                 };
             }
-            bytes = segment::put_line(&pairs, walk.view.segment, walk.station, out, bytes);
+            bytes += walk.view.segment.put_line(walk.station, &mut out[bytes..]);
             walk.move_on(step);
         }
         walk.next_segment(road);

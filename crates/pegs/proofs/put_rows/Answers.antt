@@ -1,4 +1,6 @@
 -- Where the joint is passed, the view is made anew; so it is the peg's own, and its row is written.
+use Rattle.std.proofs.Common.{arith}
+use Rattle.decimal.specs.Written.{wrote-part}
 use Rattle.cursors.specs.View.{Viewed, viewed-shows}
 use Rattle.stationing.specs.Routines.{overwritten}
 use Rattle.peg_list.specs.Pegs.{peg_at}
@@ -31,4 +33,4 @@ loop-station-preserved c =
       | then-view-station w ↦ rw w.view-is w.view_at-view-then-view-station.ensures
       | else-view-station w ↦ rw w.view-is ((c.loop-station.invariant.serves c.loop-station-test.true).seen w.if-view-station.false)
     ] in
-    writing_more c.loop-station.invariant c.requires.room c.requires.good c.loop-station-test.true viewed c.put_line-bytes.ensures.wrote c.put_line-bytes.ensures.most
+    writing_more c.loop-station.invariant c.requires.room c.requires.good c.loop-station-test.true viewed (wrote-part (omega arith) c.put_line-bytes.ensures.wrote) (omega (arith, c.put_line-bytes.ensures.most))

@@ -1,5 +1,6 @@
 -- All is the law of the walk.
 use Rattle.std.proofs.Common.{ap, ◌∙◌, ℕ, arith}
+use Rattle.decimal.specs.Written.{wrote-part}
 use Rattle.walk.specs.Walks.{shown_here, moved}
 use Rattle.walk.proofs.Going.{going-length, walking_starts, entered-inside, walked, full, done}
 use Rattle.walk.proofs.rows_on.Goals as goal
@@ -27,7 +28,7 @@ loop-walk-2-preserved c =
     let k = c.loop-walk-2.invariant.walking in
     let on = c.move_on.ensures ∙ ap (λ (n : ℕ). moved n c.loop-walk-2.walk) c.step-step.ensures.step in
     record {
-      walking = (walked c.step-step.ensures.guaranteed k c.loop-walk-2-test.true (omega (arith, going-length k.going)) c.put_line-bytes.ensures.wrote c.put_line-bytes.ensures.most on).0;
+      walking = (walked c.step-step.ensures.guaranteed k c.loop-walk-2-test.true (omega (arith, going-length k.going)) (wrote-part (omega arith) c.put_line-bytes.ensures.wrote) (omega (arith, c.put_line-bytes.ensures.most)) on).0;
       ahead = rw on c.loop-walk-2.invariant.ahead;
     }
 
