@@ -7,8 +7,7 @@ use reader::Reader;
 // A number on a line of its own.
 fn show(rt: &impl Print, v: i64) {
     let mut line = [0u8; 32];
-    let pairs = decimal::pairs();
-    let end = decimal::put_field(&pairs, &mut line, 0, v, 10);
+    let end = decimal::put_field(&mut line, v, b'\n');
     let _ = rt.write_all(&line[..end]);
 }
 

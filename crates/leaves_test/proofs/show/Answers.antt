@@ -7,8 +7,8 @@ use Rattle.leaves_test.proofs.show.Goals as goal
 use Rattle.leaves_test.proofs.show.Goals.{After-put_field-end}
 use Rattle.leaves_test.proofs.show.Given.{Over}
 
-pub put_field-end-requires-clause-room : goal.put_field-end-requires-clause-room
-put_field-end-requires-clause-room g c =
+pub put_field-end-requires : goal.put_field-end-requires
+put_field-end-requires g c =
     let f = c.ranges.v in
     simp to_z-of_z (omega (arith, decimal-length 18 c.args.v (omega (arith, abs64 f))))
 
