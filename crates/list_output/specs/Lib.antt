@@ -1,3 +1,2 @@
 pub mod RefusalLine
-pub mod Progress
-pub mod Output
+pub mod Parts

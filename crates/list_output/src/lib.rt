@@ -1,27 +1,21 @@
-// The list of a file, handed to an output part by part.
+// The list of a file, written to an output part by part.
 
 #![tactic(auto)]
 
-mod handed;
-
-ghost use Rattle.std.specs.Prelude.{◌≡◌, true, List, ℕ, [], ◌∷◌, ◌++◌, ◌+◌, ◌≤◌, length};
+ghost use Rattle.std.specs.Prelude.{◌≡◌, [], ◌∷◌, ◌++◌, ◌+◌, ◌≤◌, length, OnOk};
 ghost use Rattle.std.specs.Io.KnownBytes.{Appends};
 ghost use Rattle.decimal.specs.Decimal.{digits};
 ghost use Rattle.decimal.specs.Pairs.{pair_table};
 ghost use Rattle.decimal.specs.Written.{Wrote};
-ghost use Rattle.file_numbers.specs.Reading.{refused};
-ghost use Rattle.acceptance.specs.Acceptance.{TakenAs};
+ghost use Rattle.laws_of_acceptance.specs.Guaranteed.{Guaranteed};
+ghost use Rattle.road.specs.Faults.{fault_number};
 ghost use Rattle.road.specs.Listing.{refusal_line, list_of};
-ghost use Rattle.road.specs.Rules.{accepted};
-ghost use Rattle.walk.specs.declared.Onward.TheVariants.{Done};
-ghost use Rattle.list_output.specs.Output.{HandsOver};
-ghost use Rattle.list_output.specs.Progress.{Later, no_part};
+ghost use Rattle.list_output.specs.Parts.{lines_from, Begins};
 
-use acceptance::Outcome;
-pub use handed::{Handed, is_written};
-use road::AcceptedRoad;
+use accepted_road::AcceptedRoad;
+use road::Refusal;
+use std::io;
 use std::io::Write;
-use walk::Onward;
 
 // Writes a number and the byte `after` behind it, from `at` on, and returns the place after that.
 fn put_number(pairs: &[u8; 200], line: &mut [u8], at: usize, n: u64, after: u8) -> usize
@@ -35,89 +29,54 @@ fn put_number(pairs: &[u8; 200], line: &mut [u8], at: usize, n: u64, after: u8) 
     end + 1
 }
 
-// Writes "R" and a space from the start of the line on.
-fn put_mark(line: &mut [u8]) -> usize
-    requires { 2 ≤ length line.old }
-    ensures { Wrote line.old line.new 0 (82 ∷ 32 ∷ []) result }
-{
-    line[0] = 82;
-    line[1] = 32;
-    2
-}
-
 // "R", number and place of a refusal, from the start of the line on; the line's length.
-pub fn put_refusal(line: &mut [u8], number: u32, place: usize) -> usize
+pub fn put_refusal(line: &mut [u8], refusal: Refusal) -> usize
     requires { 64 ≤ length line.old }
-    ensures wrote { Wrote line.old line.new 0 (refusal_line number place) result }
+    ensures wrote { Wrote line.old line.new 0 (refusal_line (fault_number refusal.fault) refusal.place) result }
     ensures most { result ≤ 64 }
 {
     let pairs = decimal::pairs();
-    let start = put_mark(line);
-    let middle = put_number(&pairs, line, start, number as u64, 32);
-    put_number(&pairs, line, middle, place as u64, 10)
+    line[0] = b'R';
+    line[1] = b' ';
+    let number = u64::from(refusal.fault.number());
+    let middle = put_number(&pairs, line, 2, number, b' ');
+    put_number(&pairs, line, middle, refusal.place as u64, b'\n')
 }
 
-// Hands over the line of a file that is turned away.
-fn print_refusal<W: Write>(output: &mut W, file: &[u8], number: u32, place: usize) -> Handed
-    requires { accepted file.now ≡ refused number place }
-    ensures done { result.next ≡ Done }
-    ensures handed { HandsOver file.now (W.contents output.old) (W.contents output.new) no_part result }
+// The line of a refusal.
+fn print_refusal<W: Write>(output: &mut W, refusal: Refusal) -> io::Result<()>
+    ensures whole { OnOk result (Appends (W.contents output.old) (W.contents output.new) (refusal_line (fault_number refusal.fault) refusal.place)) }
+    ensures beginning { Begins (refusal_line (fault_number refusal.fault) refusal.place) (W.contents output.old) (W.contents output.new) }
 {
+    // std's formatting says nothing of what it wrote before an error, and not that it has none: the line is put into a buffer and written from there
     let mut line = [0u8; 64];
-    let end = put_refusal(&mut line, number, place);
-    handed::hand_over(output, handed::no_part(), file, &line[..end], Onward::Done)
+    let end = put_refusal(&mut line, refusal);
+    streams::write_whole(output, &line[..end])
 }
 
-// The part that follows: its rows put into the buffer, as many as it has room for, and handed over.
-fn print_part<W: Write>(
-    output: &mut W,
-    file: &[u8],
-    road: AcceptedRoad,
-    before: Handed,
-    out: &mut [u8],
-) -> Handed
-    requires taken { TakenAs file.now road }
+// The rows of an accepted road, part by part, as many at a time as the buffer has room for.
+fn print_rows<W: Write>(output: &mut W, road: &AcceptedRoad, out: &mut [u8]) -> io::Result<()>
+    requires guaranteed { Guaranteed road.now }
     requires room { 96 ≤ length out.old }
-    ensures later { Later before.next result.next }
-    ensures handed { HandsOver file.now (W.contents output.old) (W.contents output.new) before result }
+    ensures whole { OnOk result (Appends (W.contents output.old) (W.contents output.new) (lines_from road.now (Some 0))) }
+    ensures beginning { Begins (lines_from road.now (Some 0)) (W.contents output.old) (W.contents output.new) }
 {
-    let next = handed::next_of(before);
-    match next {
-        Onward::Done => before,
-        Onward::From(station) => {
-            let chunk = walk::rows_from(road, station, out);
-            let bytes = chunk.bytes;
-            let following = chunk.next;
-            handed::hand_over(output, before, file, &out[..bytes], following)
-        }
+    let mut next = Some(0);
+    while let Some(station) = next {
+        let chunk = walk::rows_from(road, station, out);
+        streams::write_whole(output, &out[..chunk.bytes])?;
+        next = chunk.next;
     }
+    Ok(())
 }
 
-// The rows of an accepted file, part by part, up to the last one or to one that was not written.
-fn print_rows<W: Write>(output: &mut W, file: &[u8], road: AcceptedRoad) -> Handed
-    requires { TakenAs file.now road }
-    ensures done { result.is_written ≡ true → result.next ≡ Done }
-    ensures handed { HandsOver file.now (W.contents output.old) (W.contents output.new) no_part result }
+// Prints the list of a file, or its refusal, up to the end or to a write that fails. What was written is the list, or its beginning.
+pub fn print_list<W: Write>(output: &mut W, file: &[u8]) -> io::Result<()>
+    ensures whole { OnOk result (Appends (W.contents output.old) (W.contents output.new) (list_of file.now)) }
+    ensures beginning { Begins (list_of file.now) (W.contents output.old) (W.contents output.new) }
 {
-    let mut out = [0u8; 131072];
-    let mut handed = handed::no_part();
-    while handed::goes_on(handed) {
-        handed = print_part(output, file, road, handed, &mut out);
+    match acceptance::accept(file) {
+        Ok(road) => print_rows(output, &road, &mut [0; 131072]),
+        Err(refusal) => print_refusal(output, refusal),
     }
-    handed
-}
-
-// Hands the list of a file to the output, or its refusal: to the end, or to a part that was not written. What was written is the list, or its beginning.
-pub fn print_list<W: Write>(output: &mut W, file: &[u8]) -> Handed
-    ensures done { result.is_written ≡ true → result.next ≡ Done }
-    ensures whole { result.is_written ≡ true → Appends (W.contents output.old) (W.contents output.new) (list_of file.now) }
-    ensures beginning { (front rest : List ℕ) × (list_of file.now ≡ front ++ rest) × Appends (W.contents output.old) (W.contents output.new) front }
-{
-    let accepted = acceptance::accept(file);
-    let road = accepted.road;
-    let outcome = accepted.outcome;
-    if let Outcome::Refused(number, place) = outcome {
-        return print_refusal(output, file, number, place);
-    }
-    print_rows(output, file, road)
 }

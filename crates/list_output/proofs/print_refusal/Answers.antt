@@ -1,11 +1,14 @@
--- The line of a refused file is its whole list, handed over where no part was before.
-use Rattle.std.proofs.Common.{ap, ◌∙◌}
-use Rattle.listing.specs.RestOfList.{rest_after}
-use Rattle.list_output.specs.Progress.{refused_list}
-use Rattle.list_output.specs.declared.handed.Handed.{Handed}
+-- What is written is the line that stands at the front of the buffer.
+use Rattle.std.proofs.Common.{sym, ◌∙◌, [], append-nil}
+use Rattle.list_output.specs.RefusalLine.{front_is}
+use Rattle.list_output.specs.Parts.{begun, broken_off}
 use Rattle.list_output.proofs.print_refusal.Goals as goal
 
-pub hand_over-requires : goal.hand_over-requires
-hand_over-requires g c =
-    let f = c.args.file.now in
-    ap (λ (h : Handed). rest_after f h.next) c.no_part.ensures ∙ refused_list f _ _ c.requires c.put_refusal-end.ensures.wrote
+pub returns-clause-whole : goal.returns-clause-whole
+returns-clause-whole g c = rw (front_is c.put_refusal-end.ensures.wrote) at c.write_whole.ensures.whole
+
+pub returns-clause-beginning : goal.returns-clause-beginning
+returns-clause-beginning g c =
+    let line = sym (front_is c.put_refusal-end.ensures.wrote) in
+    let w = c.write_whole.ensures.beginning in
+    broken_off _ [] _ w.0 (begun _ _) (line ∙ sym (append-nil _)) w.2

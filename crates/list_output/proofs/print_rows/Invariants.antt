@@ -1,11 +1,10 @@
--- Each part brings the list nearer to its end, and the output has what was handed over.
-use Rattle.std.proofs.Common.{◌≡◌, length}
-use Rattle.list_output.specs.Output.{HandsOver}
-use Rattle.list_output.specs.Progress.{to_come, no_part}
+use Rattle.std.proofs.Common.{Some}
+use Rattle.walk.proofs.ToCome.{to_come}
+use Rattle.list_output.specs.Parts.{lines_from, Until}
 use Rattle.list_output.proofs.print_rows.Given as goal
 
-abbrev pub invariant-loop-road : goal.invariant-loop-road
-invariant-loop-road g l = (length l.out ≡ 131072) × HandsOver l.file (g.W.Write.contents l.initial.output) (g.W.Write.contents l.output) no_part l.handed
+abbrev pub invariant-loop-next : goal.invariant-loop-next
+invariant-loop-next g l = Until (lines_from l.road (Some 0)) (lines_from l.road l.next) (g.W.Write.contents l.initial.output) (g.W.Write.contents l.output)
 
-abbrev pub decreases-loop-road : goal.decreases-loop-road
-decreases-loop-road g l = to_come l.handed.next
+abbrev pub decreases-loop-next : goal.decreases-loop-next
+decreases-loop-next g l = to_come l.next
