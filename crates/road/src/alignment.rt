@@ -84,6 +84,12 @@ impl Alignment {
         &self.crossfalls[..self.crossfall_count]
     }
 
+    pub fn set_head(&mut self, head: Head)
+        ensures { self.new ≡ record { head = head; plan = self.old.plan; start = self.old.start; tangents = self.old.tangents; crossfalls = self.old.crossfalls } }
+    {
+        self.head = head;
+    }
+
     pub fn set_start(&mut self, start: i32)
         ensures { self.new ≡ record { head = self.old.head; plan = self.old.plan; start = start; tangents = self.old.tangents; crossfalls = self.old.crossfalls } }
     {
