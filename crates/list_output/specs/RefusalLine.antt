@@ -10,6 +10,8 @@ use Rattle.road.specs.Listing.{refusal_line}
 pub digits-short : (n : ℕ) → n < 18446744073709551616 → length (digits n) ≤ 20
 digits-short n h = digits-length 19 n (omega arith)
 
+pub ruleset short = (digits-short)
+
 -- mark, number and place
 pub refusal-parts : (n p : ℕ) → ((82 ∷ 32 ∷ []) ++ (digits n ++ (32 ∷ []))) ++ (digits p ++ (10 ∷ [])) ≡ refusal_line n p
 unfolding refusal_line spaced decimal

@@ -2,10 +2,9 @@
 
 #![tactic(auto)]
 
-ghost use Rattle.std.specs.Prelude.{◌≡◌, [], ◌∷◌, ◌++◌, ◌+◌, ◌≤◌, length, OnOk};
+ghost use Rattle.std.specs.Prelude.{◌≡◌, [], ◌∷◌, ◌++◌, ◌≤◌, length, OnOk};
 ghost use Rattle.std.specs.Io.KnownBytes.{Appends};
 ghost use Rattle.decimal.specs.Decimal.{digits};
-ghost use Rattle.decimal.specs.Pairs.{pair_table};
 ghost use Rattle.decimal.specs.Written.{Wrote};
 ghost use Rattle.laws_of_acceptance.specs.Guaranteed.{Guaranteed};
 ghost use Rattle.road.specs.Faults.{fault_number};
@@ -17,30 +16,30 @@ use road::Refusal;
 use std::io;
 use std::io::Write;
 
-// Writes a number and the byte `after` behind it, from `at` on, and returns the place after that.
-fn put_number(pairs: &[u8; 200], line: &mut [u8], at: usize, n: u64, after: u8) -> usize
-    requires table { pairs.now ≡ pair_table }
-    requires room { at + 21 ≤ length line.old }
-    ensures wrote { Wrote line.old line.new at (digits n ++ (after ∷ [])) result }
-    ensures most { result ≤ at + 21 }
+// Writes n and the byte `after` behind it, and returns how many bytes that takes.
+#[tactic(auto, using(crate::specs::RefusalLine::short))]
+fn put_number(line: &mut [u8], n: u64, after: u8) -> usize
+    requires { 21 ≤ length line.old }
+    ensures wrote { Wrote line.old line.new 0 (digits n ++ (after ∷ [])) result }
+    ensures most { result ≤ 21 }
 {
-    let end = decimal::put_digits(pairs, line, at, n);
+    let end = decimal::put_digits(line, n);
     line[end] = after;
     end + 1
 }
 
-// "R", number and place of a refusal, from the start of the line on; the line's length.
+// "R", number and place of a refusal over the first bytes of the line, and its length.
 pub fn put_refusal(line: &mut [u8], refusal: Refusal) -> usize
     requires { 64 ≤ length line.old }
     ensures wrote { Wrote line.old line.new 0 (refusal_line (fault_number refusal.fault) refusal.place) result }
     ensures most { result ≤ 64 }
 {
-    let pairs = decimal::pairs();
     line[0] = b'R';
     line[1] = b' ';
-    let number = u64::from(refusal.fault.number());
-    let middle = put_number(&pairs, line, 2, number, b' ');
-    put_number(&pairs, line, middle, refusal.place as u64, b'\n')
+    let mut end = 2;
+    end += put_number(&mut line[end..], u64::from(refusal.fault.number()), b' ');
+    end += put_number(&mut line[end..], refusal.place as u64, b'\n');
+    end
 }
 
 // The line of a refusal.
