@@ -1,7 +1,6 @@
 -- A refusal is no value.
 use Rattle.std.specs.Prelude.{◌≡◌, ℕ}
-use Rattle.std.proofs.Common.{arith}
 use Rattle.file_numbers.specs.Reading.{got, refused}
 
 pub refused_not_got : {A : Type 0} {k p next : ℕ} {a : A} → refused k p ≡ got a next → ⊥
-refused_not_got e = let z : ◌≡◌ {A = ℕ} 0 1 = cc in omega arith
+refused_not_got e = cc

@@ -1,9 +1,12 @@
 -- The shape of a number: its shortest form is read back as the number, and bytes that are read as a number are its shortest form. For every number, at no width. Assumes nothing.
 use Rattle.std.proofs.Math.Path.{◌≡◌, subst₂}
-use Rattle.std.specs.Prelude.{refl, List, [], ◌∷◌, ◌++◌, Bool, ◌&&◌, ℕ, zero, suc, ◌+◌, ◌*◌, ◌/◌, ◌%◌, ◌≤◌, ◌<◌, min, length, get_or, drop, take, leb, ltb, eqb, Option, None, Some, option_map}
-use Rattle.std.proofs.Common.{sym, ap, ap₂, ◌∙◌, arith, length-take, length-drop, leb-true, leb-false, ltb-true, ltb-false, eqb-true, le-leb, lt-ltb, le-ltb, eq-eqb}
+use Rattle.std.specs.Prelude.{refl, List, [], ◌∷◌, ◌++◌, Bool, ℕ, zero, suc, ◌+◌, ◌*◌, ◌/◌, ◌%◌, ◌≤◌, ◌<◌, min, length, get_or, drop, take, leb, ltb, Option, None, Some, option_map}
+use Rattle.std.proofs.Common.{sym, ap, ap₂, ◌∙◌, arith, length-take, length-drop, leb-true, leb-false, ltb-true, ltb-false, le-leb, lt-ltb, le-ltb, eq-eqb}
 use Rattle.std.proofs.Math.Bool.{true, false}
-use Rattle.std.proofs.lemmas.Bool.{false≢true, lt-leb}
+use Rattle.std.proofs.lemmas.Bool.{lt-leb}
+use Rattle.std.proofs.lemmas.Bool.Decides.{nat_tests}
+use Rattle.std.proofs.lemmas.List.{get_or-drop}
+use Rattle.std.proofs.Math.Seq.{drop-append_seam}
 use Rattle.file_numbers.specs.Reading.{got}
 use Rattle.file_numbers.specs.Number.{byte_count, greatest, Groups, lowest, groups, sound, checked_from, number_from, number, shortest_in, shortest}
 use Rattle.file_numbers.specs.Bits.{byte_count_one, byte_count_more, byte_count_some}
@@ -102,15 +105,11 @@ shortest-sound : (v : ℕ) → v ≤ greatest → sound (grouped v (byte_count v
 unfolding sound
 shortest-sound v h = simp (le-leb v greatest h, eq-eqb (byte_count v) (byte_count v) refl)
 
-drop-before : (before rest : List ℕ) → drop (length before) (before ++ rest) ≡ rest
-drop-before [] rest = refl
-drop-before (b ∷ bs) rest = drop-before bs rest
-
 -- the shortest form is read back, at any place and whatever follows
 pub shortest-read : (before rest : List ℕ) (v : ℕ) → v ≤ greatest → number (before ++ (shortest v ++ rest)) (length before) ≡ got v (length before + byte_count v)
 unfolding number
 shortest-read before rest v h =
-    ap (λ (bs : List ℕ). number_from (groups bs) (length before)) (drop-before before (shortest v ++ rest))
+    ap (λ (bs : List ℕ). number_from (groups bs) (length before)) (drop-append_seam before (shortest v ++ rest))
     ∙ ap (λ (g : Option Groups). number_from g (length before)) (shortest-groups rest v)
     ∙ ap (λ (t : Bool). checked_from t (grouped v (byte_count v)) (length before)) (shortest-sound v h)
 
@@ -171,20 +170,12 @@ groups_exact (b ∷ bs) bytes = step (groups_exact bs (λ i. bytes (suc i))) (le
     step ih true e = exact_more b bs (leb-true 128 b e) (bytes 0) (groups bs) (some_group bs) ih
     step ih false e = exact_last b bs (leb-false 128 b e)
 
-get_d_drop : (s : List ℕ) (k i : ℕ) → Bytes s → get_or (drop k s) i 0 < 256
-get_d_drop s zero i bytes = bytes i
-get_d_drop [] (suc k) i bytes = bytes i
-get_d_drop (b ∷ bs) (suc k) i bytes = get_d_drop bs k i (λ j. bytes (suc j))
-
-both_true : (a b : Bool) → a && b ≡ true → (a ≡ true) × (b ≡ true)
-both_true true b e = (refl, e)
-both_true false b e = absurd (false≢true e)
+bytes-from : (s : List ℕ) (at : ℕ) → Bytes s → Bytes (drop at s)
+bytes-from s at bytes i = rw (get_or-drop at s i 0) (bytes (at + i))
 
 sound-parts : (g : Groups) → sound g ≡ true → (g.value ≤ greatest) × (g.count ≡ byte_count g.value)
 unfolding sound
-sound-parts g e =
-    let t = both_true (leb g.value greatest) (eqb g.count (byte_count g.value)) e in
-    (leb-true g.value greatest t.0, eqb-true g.count (byte_count g.value) t.1)
+sound-parts g e = (grind (arith, nat_tests), grind (arith, nat_tests))
 
 -- bytes of s from a place to the next are exactly the shortest form of v
 pub record Exactly (s : List ℕ) (at v next : ℕ) : Type 0 where
@@ -211,12 +202,12 @@ module _ (s : List ℕ) (at : ℕ) where
   -- bytes that are read as a number are exactly its shortest form
   pub read_exactly : (v next : ℕ) → Bytes s → number s at ≡ got v next → Exactly s at v next
   unfolding number
-  read_exactly v next bytes read = from (groups (drop at s)) (groups_exact (drop at s) (λ i. get_d_drop s at i bytes)) read
+  read_exactly v next bytes read = from (groups (drop at s)) (groups_exact (drop at s) (bytes-from s at bytes)) read
     where
       checked : (g : Groups) → Exact (drop at s) (Some g) → (t : Bool) → sound g ≡ t → checked_from t g at ≡ got v next → Exactly s at v next
       checked g x true q e = let same : g.value ≡ v = cc in let place : at + g.count ≡ next = cc in subst₂ (Exactly s at) same place (sound_exactly g x q)
-      checked g x false q e = let z : ◌≡◌ {A = ℕ} 0 1 = cc in absurd (omega arith)
+      checked g x false q e = cc
 
       from : (r : Option Groups) → Exact (drop at s) r → number_from r at ≡ got v next → Exactly s at v next
-      from None x e = let z : ◌≡◌ {A = ℕ} 0 1 = cc in absurd (omega arith)
+      from None x e = cc
       from (Some g) x e = checked g x (sound g) refl e
