@@ -1,7 +1,7 @@
 -- What a result of the code says of a reading: the value that it gives, or its refusal.
 use Rattle.std.specs.Prelude.{◌≡◌, ℕ, List}
 use Rattle.file_numbers.specs.Reading.{Got, got, refused}
-use Rattle.road.specs.Faults.{Said, value, refusal, of_got}
+use Rattle.road.specs.Faults.{value, refusal, of_got}
 
 -- the reading gives a value, wherever it ended
 pub record Given {A : Type 0} (a : A) (g : Got A) : Type 0 where
