@@ -4,16 +4,17 @@
 
 ghost use Rattle.std.specs.Prelude.{◌≡◌, length};
 
+use std::io;
 use std::io::Write;
 
-// Prints the list of the file that the input has from a place on; the place after it.
-fn one_list<W: Write>(output: &mut W, input: &[u8], at: usize) -> usize {
-    let part = cases::part_at(input, at);
-    let from = part.from;
-    let end = part.end;
-    let file = &input[from..end];
-    list_output::print_list(output, file);
-    end
+// Prints the list of each file of the input.
+fn print_lists<W: Write>(output: &mut W, input: &[u8]) -> io::Result<()> {
+    let mut rest = input;
+    while let Some((file, behind)) = cases::split_part(rest) {
+        list_output::print_list(output, file)?;
+        rest = behind;
+    }
+    Ok(())
 }
 
 // Room for all of the input; its length is what lending it asks for.
@@ -23,17 +24,8 @@ fn room() -> [u8; 524288]
     [0; 524288]
 }
 
-fn main(rt: HostRuntime) {
-    let mut output = rt.stdout();
+fn main(rt: HostRuntime) -> io::Result<()> {
     let mut space = room();
     let count = streams::read_full(&mut rt.stdin(), &mut space);
-    let input = &space[..count];
-    let mut at = 0;
-    while at < input.len() {
-        let next = one_list(&mut output, input, at);
-        if next <= at {
-            return;
-        }
-        at = next;
-    }
+    print_lists(&mut rt.stdout(), &space[..count])
 }
