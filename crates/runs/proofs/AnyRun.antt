@@ -1,27 +1,19 @@
 -- Any list of calls, each of which met its routine's own contract, in the contract's generated reading, is the machine's run; so demand 3 holds of it, and the rest.
-use Rattle.std.specs.Prelude.{if◌then◌else◌, Option}
+use Rattle.std.specs.Prelude.{Option, Result}
 use mathlib.Core.Path.{◌≡◌, refl, ◌∙◌, subst}
-use mathlib.Core.Bool.{Bool, true, false}
 use mathlib.Core.List.{List, [], ◌∷◌}
 use Prim.Native.Nat.{ℕ, ◌≤◌}
 use lib.ListN.{length, replicate}
-use lib.Dec.{ltb}
 use denote.Ref.{Bor}
 use denote.MutBor.{MutBor}
 use borrow.Fn.Kinds.{Dens, ended_of}
 use denote.Triple.Clauses.{AtExit}
 use contract.Lifetimes.{Lfts}
-use Rattle.file_numbers.specs.Reading.{Got, got, refused}
+use Rattle.file_numbers.specs.Reading.{got, refused}
 use Rattle.road.specs.File.{Road}
-use Rattle.road.specs.Exact.{total}
-use Rattle.road.specs.Line.{line}
-use Rattle.road.specs.Listed.{next_listed}
 use Rattle.road.specs.Rules.{accepted}
-use Rattle.road.specs.declared.RowAnswer.{RowAnswer}
-use Rattle.road.specs.declared.NextAnswer.{NextAnswer}
-use Rattle.road.specs.declared.RowAnswer.TheVariants as Row
-use Rattle.road.specs.declared.NextAnswer.TheVariants as Next
-use Rattle.road.specs.Machine.{Answer, refusal, wrote, of_row, of_next, row_on, row_answer, row_buffer, station_or, next_on, next_answer, Call, row, next, After, step, trace}
+use Rattle.road.specs.declared.refusal.Refusal.{Refusal}
+use Rattle.road.specs.Machine.{Answer, refusal, of_row, of_next, row_answer, row_buffer, next_answer, Call, row, next, After, step, trace}
 use Rattle.road.specs.Demand.{rows_of}
 use Rattle.road.specs.Listing.{listing_calls}
 use Rattle.stationing.proofs.row.Reads as row-says
@@ -33,9 +25,10 @@ use Rattle.runs.specs.Listing.{ListingRows}
 use Rattle.runs.proofs.RowsBack.{blade-seen}
 use Rattle.runs.proofs.Refused.{same-refusal}
 use Rattle.runs.proofs.Listing.{listing-seen}
+use Rattle.runs.proofs.Answered.{row-answer, next-answer}
 
 -- what `stationing::row` ensures, at references to these lists
-pub record RowMet (f : List ℕ) (s : ℕ) (b : List ℕ) (r : RowAnswer) (b' : List ℕ) : Type 0 where
+pub record RowMet (f : List ℕ) (s : ℕ) (b : List ℕ) (r : Result ℕ Refusal) (b' : List ℕ) : Type 0 where
   pub κs : Lfts 2
   pub args : Dens κs row-kinds.ps
   pub ends : AtExit (ended_of 2 row-kinds.ps row-kinds.r) κs
@@ -45,11 +38,11 @@ pub record RowMet (f : List ℕ) (s : ℕ) (b : List ℕ) (r : RowAnswer) (b' : 
   pub final : ends.1.1.0.now ≡ b'
   pub ensures : row-says.Learnt κs args r ends
 
-row_met : {f : List ℕ} {s : ℕ} {b : List ℕ} {r : RowAnswer} {b' : List ℕ} → RowMet f s b r b' → (of_row r ≡ row_answer f s (length b)) × (b' ≡ row_buffer f s b)
+row_met : {f : List ℕ} {s : ℕ} {b : List ℕ} {r : Result ℕ Refusal} {b' : List ℕ} → RowMet f s b r b' → (of_row r ≡ row_answer f s (length b)) × (b' ≡ row_buffer f s b)
 row_met m = (cc, cc)
 
 -- what `stationing::next_station` ensures
-pub record NextMet (f : List ℕ) (s : ℕ) (r : NextAnswer) : Type 0 where
+pub record NextMet (f : List ℕ) (s : ℕ) (r : Result (Option ℕ) Refusal) : Type 0 where
   pub κs : Lfts 1
   pub args : Dens κs next-kinds.ps
   pub ends : AtExit (ended_of 1 next-kinds.ps next-kinds.r) κs
@@ -57,20 +50,20 @@ pub record NextMet (f : List ℕ) (s : ℕ) (r : NextAnswer) : Type 0 where
   pub station : args.1.0 ≡ s
   pub ensures : next-says.Learnt κs args r ends
 
-next_met : {f : List ℕ} {s : ℕ} {r : NextAnswer} → NextMet f s r → of_next r ≡ next_answer f s
+next_met : {f : List ℕ} {s : ℕ} {r : Result (Option ℕ) Refusal} → NextMet f s r → of_next r ≡ next_answer f s
 next_met m = cc
 
 -- any calls one after the other, each with the buffer as the last one left it, and each as its contract says
 pub data Ran (f : List ℕ) : List ℕ → List Call → List After → Type 0 where
-  None : {b : List ℕ} → Ran f b [] []
-  by_row : {b b' : List ℕ} {s : ℕ} {r : RowAnswer} {calls : List Call} {ts : List After}
+  none : {b : List ℕ} → Ran f b [] []
+  by_row : {b b' : List ℕ} {s : ℕ} {r : Result ℕ Refusal} {calls : List Call} {ts : List After}
       → RowMet f s b r b' → Ran f b' calls ts → Ran f b (row s ∷ calls) (record { answer = of_row r; buffer = b' } ∷ ts)
-  by_next : {b : List ℕ} {s : ℕ} {r : NextAnswer} {calls : List Call} {ts : List After}
+  by_next : {b : List ℕ} {s : ℕ} {r : Result (Option ℕ) Refusal} {calls : List Call} {ts : List After}
       → NextMet f s r → Ran f b calls ts → Ran f b (next s ∷ calls) (record { answer = of_next r; buffer = b } ∷ ts)
 
 pub any_run : {f b : List ℕ} {calls : List Call} {ts : List After} → Ran f b calls ts → ts ≡ trace f b calls
 unfolding step trace
-any_run None = refl
+any_run none = refl
 any_run (by_row m rest) = let e = row_met m in rw (any_run rest, e.0, e.1)
 any_run (by_next m rest) = rw (any_run rest, next_met m)
 
@@ -97,7 +90,7 @@ reference l = record { ref_ptr = (0, 0); now = l }
 changing : List ℕ → MutBor (List ℕ)
 changing l = record { ref_ptr = (0, 0); ghost_name = 0; now = l }
 
-row_made : (f : List ℕ) (s : ℕ) (b : List ℕ) (r : RowAnswer) → of_row r ≡ row_answer f s (length b) → RowMet f s b r (row_buffer f s b)
+row_made : (f : List ℕ) (s : ℕ) (b : List ℕ) (r : Result ℕ Refusal) → of_row r ≡ row_answer f s (length b) → RowMet f s b r (row_buffer f s b)
 unfolding reference changing
 row_made f s b r e = record {
   κs = ([], ([], tt));
@@ -110,38 +103,13 @@ row_made f s b r e = record {
   ensures = (e, refl);
 }
 
-next_made : (f : List ℕ) (s : ℕ) (r : NextAnswer) → of_next r ≡ next_answer f s → NextMet f s r
+next_made : (f : List ℕ) (s : ℕ) (r : Result (Option ℕ) Refusal) → of_next r ≡ next_answer f s → NextMet f s r
 unfolding reference
 next_made f s r e = record { κs = ([], tt); args = (reference f, (s, tt)); ends = (reference f, (s, tt)); file = refl; station = refl; ensures = e }
 
-row-answer : (f : List ℕ) (s room : ℕ) → (r : RowAnswer) × (of_row r ≡ row_answer f s room)
-unfolding row_answer
-row-answer f s room = by (accepted f)
-  where
-    by : (g : Got Road) → (r : RowAnswer) × (of_row r ≡ row_on s room g)
-    by (refused n p) = (Row.Refused n p, refl)
-    by (got r end) = tests (ltb room 96) (ltb (total r) s)
-      where
-        tests : (c d : Bool) → (a : RowAnswer) × (of_row a ≡ (if c then refusal 20 0 else (if d then refusal 21 0 else wrote (length (line r s)))))
-        tests true d = (Row.Refused 20 0, refl)
-        tests false true = (Row.Refused 21 0, refl)
-        tests false false = (Row.Length (length (line r s)), refl)
-
-next-answer : (f : List ℕ) (s : ℕ) → (r : NextAnswer) × (of_next r ≡ next_answer f s)
-unfolding next_answer
-next-answer f s = by (accepted f)
-  where
-    listed : (o : Option ℕ) → (a : NextAnswer) × (of_next a ≡ station_or o)
-    listed Option.none = (Next.Nothing, refl)
-    listed (Option.some x) = (Next.Station x, refl)
-
-    by : (g : Got Road) → (r : NextAnswer) × (of_next r ≡ next_on s g)
-    by (refused n p) = (Next.Refused n p, refl)
-    by (got r end) = listed (next_listed r s)
-
 pub ran : (f b : List ℕ) (calls : List Call) → Ran f b calls (trace f b calls)
 unfolding step trace
-ran f b [] = None
+ran f b [] = none
 ran f b (row s ∷ calls) =
     let b' = row_buffer f s b in
     let a = row-answer f s (length b) in

@@ -1,11 +1,10 @@
-pub mod Called
-pub mod Sizes
-pub mod Lengths
 pub mod Seen
 pub mod Progress
 pub mod RowsBack
 pub mod Refused
 pub mod Listing
+pub mod Answered
 pub mod AnyRun
+pub mod Sizes
 pub mod Witnesses
 pub mod Sample

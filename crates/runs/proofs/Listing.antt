@@ -26,6 +26,8 @@ use Rattle.laws_of_stations.specs.Visits.{listing-rows}
 use Rattle.runs.specs.Calls.{run_of}
 use Rattle.runs.specs.Recorded.{Recorded}
 use Rattle.runs.specs.Listing.{ListingRows, ListingRecorded}
+use Rattle.runs.specs.declared.Call.{Call}
+use Rattle.runs.specs.declared.Answer.{Answer}
 
 -- ---- an ascending list has its least number first and its greatest last
 
@@ -93,7 +95,7 @@ unfolding listing_rows
 listing-seen f b e r end g room = rw e (listing_machine f b r end g room)
 
 -- of a recorded run
-pub listing-recorded : {f b ks ss b' cs ns ps fs : List ℕ} → Recorded f b ks ss b' cs ns ps fs → ListingRecorded f b ks ss cs ns ps fs
+pub listing-recorded : {f b : List ℕ} {calls : List Call} {b' : List ℕ} {xs : List Answer} {fs : List ℕ} → Recorded f b calls b' xs fs → ListingRecorded f b calls xs fs
 unfolding ListingRecorded run_of
-listing-recorded {f} {b} {ks} {ss} recorded calls r end g room =
-    rw calls (listing-seen f b (recorded.seen ∙ ap (trace f b) calls) r end g room)
+listing-recorded {f} {b} r calls road end g room =
+    rw calls (listing-seen f b (r.seen ∙ ap (trace f b) calls) road end g room)

@@ -1,131 +1,109 @@
--- How far a recorded run has come after k calls: what is written down, with what the machine still shows from here, is the whole run of the machine.
--- `turn` and `done` are the loop of `runs::run_sized`, said of lists alone.
-use mathlib.Core.Path.{◌≡◌, sym, ap, ◌∙◌}
-use mathlib.Core.List.{List, [], ◌∷◌, ◌++◌, map, append_assoc, append-nil}
-use Prim.Native.Nat.{ℕ, suc, ◌+◌, ◌-◌, ◌*◌, ◌<◌, ◌≤◌}
-use native.Mathlib.Omega.{arith}
-use native.Mathlib.Nat.{suc-mul, zero-mul}
-use native.Mathlib.Numerals.{add-one}
-use lib.ListN.{length, take, drop, get_or, set, length-set, length-append, length-drop, drop_of_length-le}
-use lib.Seq.{take-suc-set, append_snoc, drop-cons, take_at, take_all, length-take-le}
+-- How far a recorded run has come after k calls: what is written down is the machine's run on those.
+use Rattle.std.proofs.Common.{◌≡◌, refl, sym, ap, ap₂, ◌∙◌, ℕ, suc, ◌+◌, ◌*◌, ◌<◌, ◌≤◌, List, [], ◌∷◌, ◌++◌, length, take, drop, set, get_or, arith, add-one, suc-mul, take_all, take-append-drop, length-set, length-append, length-drop, take-suc, take-suc-set, length-take-le, take_at, drop_at, mul-le-mul_right}
+use Rattle.std.proofs.lemmas.List.{map-append}
+use borrow.Rule.Slice.PartMut.{put_mid, post_of}
+use Rattle.road.specs.Machine as machine
 use Rattle.road.specs.Machine.{After, step, trace}
 use Rattle.laws_of_lines.specs.Buffer.{step-length}
-use Rattle.runs.specs.Answers.{code, first, second}
-use Rattle.runs.specs.Calls.{call_of, run_of}
-use Rattle.runs.specs.Recorded.{Recorded, CallRecorded, last_buffer, frames_of}
-use Rattle.runs.proofs.Seen.{seen-run}
+use Rattle.runs.specs.Answers.{answer_of}
+use Rattle.runs.specs.Calls.{call_of, calls_of, run_of}
+use Rattle.runs.specs.Recorded.{Recorded, last_buffer, seen_in}
+use Rattle.runs.specs.declared.Call.{Call}
+use Rattle.runs.specs.declared.Answer.{Answer}
+use Rattle.runs.proofs.Seen.{seen-front, seen_more, recorded}
 
--- ---- one of the three numbers
+-- ---- the machine's run on one more call
 
--- the numbers of the first k calls, and those of the calls that remain
-pub record Column (g : After → ℕ) (count k : ℕ) (xs : List ℕ) (remaining all : List After) : Type 0 where
-  pub size : length xs ≡ count
-  pub noted : take k xs ++ map g remaining ≡ map g all
+last_more : (b : List ℕ) (ts : List After) (t : After) → last_buffer b (ts ++ (t ∷ [])) ≡ t.buffer
+last_more b [] t = refl
+last_more b (u ∷ ts) t = last_more u.buffer ts t
 
-column-turn : {g : After → ℕ} {count k : ℕ} {xs : List ℕ} {t : After} {remaining all : List After} {xs' : List ℕ}
-    → Column g count k xs (t ∷ remaining) all → k < count → xs' ≡ set xs k (g t) → Column g count (k + 1) xs' remaining all
-column-turn {g} {count} {k} {xs} {t} {remaining} {all} {xs'} c h e =
-    let l : k < length xs = omega arith in
-    record {
-      size = ap length e ∙ length-set xs k (g t) ∙ c.size;
-      noted = rw (e, add-one k, take-suc-set xs k (g t) l) (append_snoc (take k xs) (g t) (map g remaining)) ∙ c.noted;
-    }
+trace_more : (f b : List ℕ) (calls : List machine.Call) (c : machine.Call) → trace f b (calls ++ (c ∷ [])) ≡ trace f b calls ++ (step f (last_buffer b (trace f b calls)) c ∷ [])
+unfolding trace
+trace_more f b [] c = refl
+trace_more f b (d ∷ calls) c = ap (λ ts. step f b d ∷ ts) (trace_more f (step f b d).buffer calls c)
 
-column-done : {g : After → ℕ} {count k : ℕ} {xs : List ℕ} {all : List After} → Column g count k xs [] all → count ≤ k → xs ≡ map g all
-column-done {g} {count} {k} {xs} {all} c h = sym (append-nil (take k xs) ∙ take_all k xs (omega arith)) ∙ c.noted
+run_more : (f b : List ℕ) (calls : List Call) (c : Call) → run_of f b (calls ++ (c ∷ [])) ≡ run_of f b calls ++ (step f (last_buffer b (run_of f b calls)) (call_of c) ∷ [])
+unfolding run_of
+run_more f b calls c = ap (trace f b) (map-append call_of calls (c ∷ [])) ∙ trace_more f b (calls_of calls) (call_of c)
 
--- ---- the whole record
+-- ---- what is read back of one more frame
 
-pub record Progress (f b₀ ks ss : List ℕ) (k at : ℕ) (b cs ns ps fs : List ℕ) : Type 0 where
-  pub passed : k ≤ length ks
-  pub even : length ss ≡ length ks
+frame_more : (size k : ℕ) (xs : List Answer) (x : Answer) (fs b : List ℕ) → length xs ≡ k → k * size + size ≤ length fs → length b ≡ size
+    → seen_in size (xs ++ (x ∷ [])) (put_mid (k * size) size fs b) ≡ seen_in size xs fs ++ (record { answer = answer_of x; buffer = b } ∷ [])
+frame_more size k xs x fs b e room long =
+    let front = take (k * size) fs in
+    let rest = post_of (k * size) size fs in
+    let same : length xs * size ≡ k * size = ap (λ n. n * size) e in
+    let front-long : length front ≡ length xs * size = length-take-le (k * size) fs (omega arith) ∙ sym same in
+    let before : seen_in size xs (put_mid (k * size) size fs b) ≡ seen_in size xs fs =
+    seen-front size xs front (b ++ rest) (omega arith)
+    ∙ sym (seen-front size xs front (drop (k * size) fs) (omega arith))
+    ∙ ap (seen_in size xs) (take-append-drop (k * size) fs)
+    in
+    let here : take size (drop (length xs * size) (put_mid (k * size) size fs b)) ≡ b =
+    ap (take size) (drop_at front (b ++ rest) (length xs * size) front-long) ∙ take_at b rest size long
+    in
+    seen_more size xs x (put_mid (k * size) size fs b)
+    ∙ ap₂ (λ ts (l : List ℕ). ts ++ (record { answer = answer_of x; buffer = l } ∷ [])) before here
+
+-- the frames stay as long as they were
+length-put_mid : (a k : ℕ) (fs b : List ℕ) → a + k ≤ length fs → length b ≡ k → length (put_mid a k fs b) ≡ length fs
+length-put_mid a k fs b room e =
+    let rest = post_of a k fs in
+    omega (arith, length-append (take a fs) (b ++ rest), length-append b rest, length-take-le a fs (omega arith), length-drop k (drop a fs), length-drop a fs)
+
+-- ---- the record
+
+pub record Progress (f b₀ : List ℕ) (calls : List Call) (k : ℕ) (b : List ℕ) (xs : List Answer) (fs : List ℕ) : Type 0 where
   pub size : length b ≡ length b₀
-  pub codes : Column code (length ks) k cs (run_of f b (drop k ks) (drop k ss)) (run_of f b₀ ks ss)
-  pub firsts : Column first (length ks) k ns (run_of f b (drop k ks) (drop k ss)) (run_of f b₀ ks ss)
-  pub seconds : Column second (length ks) k ps (run_of f b (drop k ks) (drop k ss)) (run_of f b₀ ks ss)
-  pub frames-size : length fs ≡ length ks * length b₀
-  pub room : at + (length ks - k) * length b₀ ≡ length fs
-  pub framed : take at fs ++ frames_of (run_of f b (drop k ks) (drop k ss)) ≡ frames_of (run_of f b₀ ks ss)
-  pub buffer : last_buffer b (run_of f b (drop k ks) (drop k ss)) ≡ last_buffer b₀ (run_of f b₀ ks ss)
+  pub answers-size : length xs ≡ length calls
+  pub frames-size : length fs ≡ length calls * length b₀
+  pub buffer : b ≡ last_buffer b₀ (run_of f b₀ (take k calls))
+  pub seen : seen_in (length b₀) (take k xs) fs ≡ run_of f b₀ (take k calls)
 
--- the machine's next step, and the rest
-unroll : (f b ks ss : List ℕ) (k : ℕ) → k < length ks → k < length ss
-    → run_of f b (drop k ks) (drop k ss)
-    ≡ step f b (call_of (get_or ks k 0) (get_or ss k 0)) ∷ run_of f (step f b (call_of (get_or ks k 0) (get_or ss k 0))).buffer (drop (k + 1) ks) (drop (k + 1) ss)
+-- call k has its frame
+pub frame_fits : (k n size : ℕ) → k < n → k * size + size ≤ n * size
+frame_fits k n size h = let h : suc k ≤ n = omega arith in omega (arith, mul-le-mul_right size h, suc-mul k size)
+
+-- no call yet
+pub none : {f b : List ℕ} {calls : List Call} {xs : List Answer} {fs : List ℕ} → length xs ≡ length calls → length fs ≡ length calls * length b → Progress f b calls 0 b xs fs
 unfolding run_of trace
-unroll f b ks ss k h j = rw (add-one k, drop-cons ks k 0 h, drop-cons ss k 0 j)
+none a l = record { size = refl; answers-size = a; frames-size = l; buffer = refl; seen = refl }
 
--- no call remains
-over : (f b ks ss : List ℕ) (k : ℕ) → length ks ≤ k → run_of f b (drop k ks) ss ≡ []
-unfolding run_of trace
-over f b ks ss k h = rw (drop_of_length-le ks h)
+module _ {f b₀ : List ℕ} {calls : List Call} {k : ℕ} {b : List ℕ} {xs : List Answer} {fs : List ℕ} (p : Progress f b₀ calls k b xs fs) where
+  -- one more: its answer, the buffer after it, and that buffer in its frame
+  pub turn : (d : Call) (x : Answer) {b' frame : List ℕ} {width : ℕ} → k < length calls
+      → answer_of x ≡ (step f b (call_of (get_or calls k d))).answer → b' ≡ (step f b (call_of (get_or calls k d))).buffer
+      → frame ≡ b' → width ≡ length b₀
+      → Progress f b₀ calls (k + 1) b' (set xs k x) (put_mid (k * length b₀) width fs frame)
+  turn d x {b'} h said left same wide =
+      let size = length b₀ in
+      let c : Call = get_or calls k d in
+      let t : After = step f b (call_of c) in
+      let room : k * size + size ≤ length fs = omega (arith, frame_fits k (length calls) size h, p.frames-size) in
+      let long : length b' ≡ size = ap length left ∙ step-length f b (call_of c) ∙ p.size in
+      let more : run_of f b₀ (take (k + 1) calls) ≡ run_of f b₀ (take k calls) ++ (t ∷ []) =
+      ap (run_of f b₀) (rw (add-one k) (take-suc calls k d h))
+      ∙ run_more f b₀ (take k calls) c
+      ∙ ap (λ l. run_of f b₀ (take k calls) ++ (step f l (call_of c) ∷ [])) (sym p.buffer)
+      in
+      rw (same, wide)
+      (record {
+        size = long;
+        answers-size = length-set xs k x ∙ p.answers-size;
+        frames-size = length-put_mid (k * size) size fs b' room long ∙ p.frames-size;
+        buffer = left ∙ sym (last_more b₀ (run_of f b₀ (take k calls)) t) ∙ ap (last_buffer b₀) (sym more);
+        seen =
+            ap (λ l. seen_in size l (put_mid (k * size) size fs b')) (rw (add-one k) (take-suc-set xs k x (omega (arith, p.answers-size))))
+            ∙ frame_more size k (take k xs) x fs b' (length-take-le k xs (omega (arith, p.answers-size))) room long
+            ∙ ap₂ (λ ts u. ts ++ (u ∷ [])) p.seen (ap₂ (λ y (l : List ℕ). record { answer = y; buffer = l }) said left)
+            ∙ sym more;
+      })
 
--- one buffer written down
-framed-more : (fs b : List ℕ) (at : ℕ) (rest : List ℕ) → at ≤ length fs
-    → take (at + length b) (take at fs ++ b ++ drop (at + length b) fs) ++ rest ≡ take at fs ++ (b ++ rest)
-framed-more fs b at rest h =
-    ap (λ (l : List ℕ). l ++ rest) (take_at (take at fs ++ b) (drop (at + length b) fs) (at + length b) (length-append (take at fs) b ∙ ap (λ (n : ℕ). n + length b) (length-take-le at fs h)))
-    ∙ append_assoc (take at fs) b rest
-
--- it leaves the frames as long as they were
-framed-length : (fs b : List ℕ) (at : ℕ) → at + length b ≤ length fs → length (take at fs ++ b ++ drop (at + length b) fs) ≡ length fs
-framed-length fs b at h =
-    omega (arith, length-append (take at fs ++ b) (drop (at + length b) fs), length-append (take at fs) b, length-take-le at fs (omega arith), length-drop (at + length b) fs)
-
--- the room that remains
-less : (n k l : ℕ) → k < n → (n - k) * l ≡ l + (n - (k + 1)) * l
-less n k l h =
-    let e : n - k ≡ suc (n - (k + 1)) = omega arith in
-    ap (λ (m : ℕ). m * l) e ∙ (let p = suc-mul (n - (k + 1)) l in omega arith)
-
-module _ {f b₀ ks ss : List ℕ} {k at : ℕ} {b cs ns ps fs : List ℕ} (p : Progress f b₀ ks ss k at b cs ns ps fs) where
-  pub turn : {b' cs' ns' ps' fs' : List ℕ} → k < length ks → CallRecorded f b (call_of (get_or ks k 0) (get_or ss k 0)) k at cs ns ps fs b' cs' ns' ps' fs'
-      → Progress f b₀ ks ss (k + 1) (at + length b') b' cs' ns' ps' fs'
-  turn {b'} {cs'} {ns'} {ps'} {fs'} h r =
-      let t : After = step f b (call_of (get_or ks k 0) (get_or ss k 0)) in
-      let remaining : List After = run_of f b' (drop (k + 1) ks) (drop (k + 1) ss) in
-      let u : run_of f b (drop k ks) (drop k ss) ≡ t ∷ remaining = rw r.buffer (unroll f b ks ss k h (omega (arith, p.even))) in
-      let same : length b' ≡ length b = ap length r.buffer ∙ step-length f b (call_of (get_or ks k 0) (get_or ss k 0)) in
-      let gone = less (length ks) k (length b₀) h in
-      let room : at + length b' ≤ length fs = omega (arith, p.size, p.room) in
-      let long : length fs' ≡ length fs = ap length r.frames ∙ framed-length fs b' at room in
-      record {
-        passed = omega arith;
-        even = p.even;
-        size = same ∙ p.size;
-        codes = column-turn (rw u at p.codes) h r.codes;
-        firsts = column-turn (rw u at p.firsts) h r.firsts;
-        seconds = column-turn (rw u at p.seconds) h r.seconds;
-        frames-size = long ∙ p.frames-size;
-        room = omega (arith, p.size, p.room);
-        framed =
-            ap (λ (l : List ℕ). take (at + length b') l ++ frames_of remaining) r.frames
-            ∙ framed-more fs b' at (frames_of remaining) (omega arith)
-            ∙ ap (λ (l : List ℕ). take at fs ++ (l ++ frames_of remaining)) r.buffer
-            ∙ ap (λ (ts : List After). take at fs ++ frames_of ts) (sym u)
-            ∙ p.framed;
-        buffer = ap (λ (l : List ℕ). last_buffer l remaining) r.buffer ∙ ap (last_buffer b) (sym u) ∙ p.buffer;
-      }
-
-  pub done : length ks ≤ k → Recorded f b₀ ks ss b cs ns ps fs
+  -- all of them
+  pub done : length calls ≤ k → Recorded f b₀ calls b xs fs
   done h =
-      let all : List After = run_of f b₀ ks ss in
-      let none : run_of f b (drop k ks) (drop k ss) ≡ [] = over f b ks (drop k ss) k h in
-      let ec : cs ≡ map code all = column-done (rw none at p.codes) h in
-      let en : ns ≡ map first all = column-done (rw none at p.firsts) h in
-      let ep : ps ≡ map second all = column-done (rw none at p.seconds) h in
-      let ef : fs ≡ frames_of all = sym (append-nil (take at fs) ∙ take_all at fs full) ∙ ap (λ (ts : List After). take at fs ++ frames_of ts) (sym none) ∙ p.framed in
-      record {
-        buffer = ap (last_buffer b) (sym none) ∙ p.buffer;
-        codes = ec;
-        firsts = en;
-        seconds = ep;
-        frames = ef;
-        seen = rw (ec, en, ep, ef) (seen-run f b₀ ks ss);
-      }
-    where
-      full : length fs ≤ at
-      full =
-          let e : length ks - k ≡ 0 = omega arith in
-          let z = ap (λ (m : ℕ). m * length b₀) e ∙ zero-mul (length b₀) in
-          omega (arith, p.room)
+      let all : take k calls ≡ calls = take_all k calls h in
+      let whole : take k xs ≡ xs = take_all k xs (omega (arith, p.answers-size)) in
+      recorded f b₀ calls b xs fs (p.frames-size ∙ ap (λ n. n * length b₀) (sym p.answers-size)) (rw all at p.buffer) (rw (all, whole) at p.seen)

@@ -1,117 +1,102 @@
 -- Each row that is read from a record is a row of the run that the record shows, and so demand 3 holds of any two of them; and each row of the run is read from it.
-use mathlib.Core.Path.{◌≡◌, refl, sym, ap, ◌∙◌, subst}
+use Rattle.std.proofs.Common.{◌≡◌, refl, sym, ap, ◌∙◌, subst, ℕ, zero, suc, ◌*◌, ◌⊎◌, inl, inr, length, take, drop, Some, None, Ok, Err, suc-mul, zero-mul, add_comm, drop-drop}
 use mathlib.Core.List.Memᴰ
-use mathlib.Core.List.{List, [], ◌∷◌, map, Memᴰ}
-use mathlib.Core.Logic.{◌⊎◌, inl, inr}
-use Prim.Native.Nat.{ℕ, zero, suc, ◌*◌}
-use native.Mathlib.Omega.{arith}
-use native.Mathlib.Nat.{suc-mul, zero-mul, add_comm}
-use lib.ListN.{length, take, drop, get_or, length-map}
-use lib.Seq.{drop-drop}
-use Rattle.road.specs.Machine.{Call, row, next, Answer, refusal, wrote, station, no_station, After, trace}
+use mathlib.Core.List.{List, [], ◌∷◌, Memᴰ}
+use Rattle.road.specs.Machine as machine
+use Rattle.road.specs.Machine.{row, next, refusal, wrote, station, no_station, After, trace}
 use Rattle.road.specs.Demand.{Row, row_in, rows_of, BladeClose}
 use Rattle.laws_of_blade.specs.Demand.{demand_3}
-use Rattle.runs.specs.Answers.{code, first, second, answer_of}
+use Rattle.runs.specs.Answers.{answer_of}
 use Rattle.runs.specs.Calls.{call_of, calls_of, run_of}
 use Rattle.runs.specs.Recorded.{Recorded, seen_in}
-use Rattle.runs.proofs.Lengths.{run_length}
-use Rattle.runs.specs.RecordedRows.{Close, BladeSeen, IsRow, row_bytes, recorded_row, BladeRecorded}
+use Rattle.runs.specs.RecordedRows.{Close, BladeSeen, IsRow, recorded_row, BladeRecorded}
+use Rattle.runs.specs.declared.Call.{Call}
+use Rattle.runs.specs.declared.Answer.{Answer}
+use Rattle.runs.specs.declared.Call.TheVariants as asked
+use Rattle.runs.specs.declared.Answer.TheVariants as answered
 
 -- the rows of later calls are rows of the whole run
-row_later : {a : Row} {rows : List Row} (c : Call) (x : Answer) (b : List ℕ) → Memᴰ a rows → Memᴰ a (row_in c x b rows)
+row_later : {a : Row} {rows : List Row} (c : machine.Call) (x : machine.Answer) (b : List ℕ) → Memᴰ a rows → Memᴰ a (row_in c x b rows)
 row_later (row s) (refusal n p) b m = m
 row_later (row s) (wrote n) b m = Memᴰ.tail m
 row_later (row s) (station x) b m = m
 row_later (row s) no_station b m = m
 row_later (next s) x b m = m
 
--- a row call that was not refused
-row_here : (size : ℕ) (rows : List Row) (k s c n p : ℕ) (fs : List ℕ) → k ≡ 0 → c ≡ 1
-    → Memᴰ (record { station = s; bytes = take n (take size fs) }) (row_in (call_of k s) (answer_of c n p) (take size fs) rows)
-row_here size rows k s c n p fs ek ec = rw (ek, ec) (Memᴰ.head refl)
-
--- the frames of later calls
-frame_later : (size : ℕ) (ns : List ℕ) (n : ℕ) (fs : List ℕ) (i : ℕ) → row_bytes size (n ∷ ns) fs (suc i) ≡ row_bytes size ns (drop size fs) i
-frame_later size ns n fs i = ap (λ (l : List ℕ). take (get_or ns i 0) (take size l)) (ap (λ (m : ℕ). drop m fs) (suc-mul i size ∙ add_comm (i * size) size) ∙ sym (drop-drop (i * size) size fs))
+-- the row of a later call
+row_behind : (size : ℕ) (fs : List ℕ) (i s n : ℕ) → recorded_row size fs (suc i) s n ≡ recorded_row size (drop size fs) i s n
+row_behind size fs i s n = rw (suc-mul i size, add_comm (i * size) size, ← drop-drop (i * size) size fs)
 
 module _ (size : ℕ) where
-  seen_row : (ks ss cs ns ps fs : List ℕ) (i : ℕ) → length ss ≡ length ks → length cs ≡ length ks → length ns ≡ length ks → length ps ≡ length ks → IsRow ks cs i
-      → Memᴰ (recorded_row size ss ns fs i) (rows_of (calls_of ks ss) (seen_in size cs ns ps fs))
+  seen_row : (calls : List Call) (xs : List Answer) (fs : List ℕ) (i s n : ℕ) → IsRow calls xs i s n
+      → Memᴰ (recorded_row size fs i s n) (rows_of (calls_of calls) (seen_in size xs fs))
   unfolding rows_of
-  seen_row [] ss cs ns ps fs i hs hc hn hp w = absurd (omega (arith, w.in_run))
-  seen_row (k ∷ ks) [] cs ns ps fs i hs hc hn hp w = absurd (omega arith)
-  seen_row (k ∷ ks) (s ∷ ss) [] ns ps fs i hs hc hn hp w = absurd (omega arith)
-  seen_row (k ∷ ks) (s ∷ ss) (c ∷ cs) [] ps fs i hs hc hn hp w = absurd (omega arith)
-  seen_row (k ∷ ks) (s ∷ ss) (c ∷ cs) (n ∷ ns) [] fs i hs hc hn hp w = absurd (omega arith)
-  seen_row (k ∷ ks) (s ∷ ss) (c ∷ cs) (n ∷ ns) (p ∷ ps) fs zero hs hc hn hp w =
-      rw (zero-mul size) (row_here size (rows_of (calls_of ks ss) (seen_in size cs ns ps (drop size fs))) k s c n p fs w.asked w.given)
-  seen_row (k ∷ ks) (s ∷ ss) (c ∷ cs) (n ∷ ns) (p ∷ ps) fs (suc i) hs hc hn hp w =
-      row_later (call_of k s) (answer_of c n p) (take size fs)
-      (rw (frame_later size ns n fs i) (seen_row ks ss cs ns ps (drop size fs) i (omega arith) (omega arith) (omega arith) (omega arith) (record { in_run = omega (arith, w.in_run); asked = w.asked; given = w.given })))
+  seen_row [] xs fs i s n w = let z = w.asked in cc
+  seen_row (c ∷ calls) [] fs i s n w = let z = w.given in cc
+  seen_row (c ∷ calls) (x ∷ xs) fs zero s n w =
+      let c-is : c ≡ asked.Row s = let z = w.asked in cc in
+      let x-is : x ≡ answered.Row (Ok n) = let z = w.given in cc in
+      rw (c-is, x-is, zero-mul size) (Memᴰ.head refl)
+  seen_row (c ∷ calls) (x ∷ xs) fs (suc i) s n w =
+      row_later (call_of c) (answer_of x) (take size fs)
+      (rw (row_behind size fs i s n) (seen_row calls xs (drop size fs) i s n (record { asked = w.asked; given = w.given })))
 
-module _ {f b ks ss b' cs ns ps fs : List ℕ} (r : Recorded f b ks ss b' cs ns ps fs) (even : length ss ≡ length ks) where
-  column : (g : After → ℕ) (xs : List ℕ) → xs ≡ map g (run_of f b ks ss) → length xs ≡ length ks
-  column g xs e = ap length e ∙ length-map (run_of f b ks ss) g ∙ run_length f b ks ss even
-
-  row_of_run : (i : ℕ) → IsRow ks cs i → Memᴰ (recorded_row (length b) ss ns fs i) (rows_of (calls_of ks ss) (trace f b (calls_of ks ss)))
-  unfolding run_of
-  row_of_run i w =
-      subst (λ (ts : List After). Memᴰ (recorded_row (length b) ss ns fs i) (rows_of (calls_of ks ss) ts)) r.seen
-      (seen_row (length b) ks ss cs ns ps fs i even (column code cs r.codes) (column first ns r.firsts) (column second ps r.seconds) w)
-
-  -- demand 3, carried to what was recorded
-  pub blade-recorded : BladeRecorded f (length b) ks ss cs ns fs
-  unfolding BladeRecorded Close BladeClose
-  blade-recorded road end e i j wi wj =
-      demand_3 f b (calls_of ks ss) road end e (recorded_row (length b) ss ns fs i) (recorded_row (length b) ss ns fs j) (row_of_run i wi) (row_of_run j wj)
+-- demand 3, carried to what was recorded
+pub blade-recorded : {f b : List ℕ} {calls : List Call} {b' : List ℕ} {xs : List Answer} {fs : List ℕ} → Recorded f b calls b' xs fs → BladeRecorded f (length b) calls xs fs
+unfolding BladeRecorded Close BladeClose run_of
+blade-recorded {f} {b} {calls} {b'} {xs} {fs} r road end e i s m wi j t n wj =
+    let in-run = λ (i s n : ℕ) (w : IsRow calls xs i s n).
+    subst (λ (ts : List After). Memᴰ (recorded_row (length b) fs i s n) (rows_of (calls_of calls) ts)) r.seen (seen_row (length b) calls xs fs i s n w)
+    in
+    demand_3 f b (calls_of calls) road end e (recorded_row (length b) fs i s m) (recorded_row (length b) fs j t n) (in-run i s m wi) (in-run j t n wj)
 
 -- ---- the other way: each row of what was seen is the row of one of the calls
 
 -- row a is that of a row call that was not refused
-pub record RowCall (size : ℕ) (ks ss cs ns fs : List ℕ) (a : Row) : Type 0 where
+pub record RowCall (size : ℕ) (calls : List Call) (xs : List Answer) (fs : List ℕ) (a : Row) : Type 0 where
   pub call : ℕ
-  pub is_row : IsRow ks cs call
-  pub row_is : recorded_row size ss ns fs call ≡ a
+  pub length : ℕ
+  pub is_row : IsRow calls xs call a.station length
+  pub row_is : recorded_row size fs call a.station length ≡ a
 
 module _ (size : ℕ) {a : Row} where
-  call_later : {ks ss cs ns fs : List ℕ} (k s c n : ℕ) → RowCall size ks ss cs ns (drop size fs) a → RowCall size (k ∷ ks) (s ∷ ss) (c ∷ cs) (n ∷ ns) fs a
-  call_later {ss = ss} {ns = ns} {fs = fs} k s c n w =
-      let i = w.call in
-      let q = w.is_row in
-      record {
-        call = suc i;
-        is_row = record { in_run = omega (arith, q.in_run); asked = q.asked; given = q.given };
-        row_is = ap (λ (l : List ℕ). record { station = get_or ss i 0; bytes = l }) (frame_later size ns n fs i) ∙ w.row_is;
-      }
-
-  call-here : (ks ss cs ns fs : List ℕ) (s n : ℕ) → a ≡ record { station = s; bytes = take n (take size fs) } → RowCall size (0 ∷ ks) (s ∷ ss) (1 ∷ cs) (n ∷ ns) fs a
-  call-here ks ss cs ns fs s n e = record {
-    call = 0;
-    is_row = record { in_run = omega arith; asked = refl; given = refl };
-    row_is = ap (λ (m : ℕ). record { station = s; bytes = take n (take size (drop m fs)) }) (zero-mul size) ∙ sym e;
+  call_later : {calls : List Call} {xs : List Answer} {fs : List ℕ} (c : Call) (x : Answer) → RowCall size calls xs (drop size fs) a → RowCall size (c ∷ calls) (x ∷ xs) fs a
+  call_later {fs = fs} c x w = record {
+    call = suc w.call;
+    length = w.length;
+    is_row = record { asked = w.is_row.asked; given = w.is_row.given };
+    row_is = row_behind size fs w.call a.station w.length ∙ w.row_is;
   }
 
-  pub row-call : (ks ss cs ns ps fs : List ℕ) → Memᴰ a (rows_of (calls_of ks ss) (seen_in size cs ns ps fs)) → RowCall size ks ss cs ns fs a
+  call-here : (calls : List Call) (xs : List Answer) (fs : List ℕ) (s n : ℕ) → a ≡ record { station = s; bytes = take n (take size fs) }
+      → RowCall size (asked.Row s ∷ calls) (answered.Row (Ok n) ∷ xs) fs a
+  call-here calls xs fs s n e = record {
+    call = 0;
+    length = n;
+    is_row = record { asked = ap (λ (r : Row). Some (asked.Row r.station)) (sym e); given = refl };
+    row_is = rw (zero-mul size, e);
+  }
+
+  pub row-call : (calls : List Call) (xs : List Answer) (fs : List ℕ) → Memᴰ a (rows_of (calls_of calls) (seen_in size xs fs)) → RowCall size calls xs fs a
   unfolding rows_of
-  row-call [] ss cs ns ps fs m = absurd (Memᴰ.not-nil m)
-  row-call (k ∷ ks) [] cs ns ps fs m = absurd (Memᴰ.not-nil m)
-  row-call (k ∷ ks) (s ∷ ss) [] ns ps fs m = absurd (Memᴰ.not-nil m)
-  row-call (k ∷ ks) (s ∷ ss) (c ∷ cs) [] ps fs m = absurd (Memᴰ.not-nil m)
-  row-call (k ∷ ks) (s ∷ ss) (c ∷ cs) (n ∷ ns) [] fs m = absurd (Memᴰ.not-nil m)
-  row-call (zero ∷ ks) (s ∷ ss) (zero ∷ cs) (n ∷ ns) (p ∷ ps) fs m = call_later 0 s 0 n (row-call ks ss cs ns ps (drop size fs) m)
-  row-call (zero ∷ ks) (s ∷ ss) (suc zero ∷ cs) (n ∷ ns) (p ∷ ps) fs m = go (Memᴰ.cases_cons m) (λ l. row-call ks ss cs ns ps (drop size fs) l)
+  row-call [] xs fs m = absurd (Memᴰ.not-nil m)
+  row-call (c ∷ calls) [] fs m = absurd (Memᴰ.not-nil m)
+  row-call (asked.Next s ∷ calls) (x ∷ xs) fs m = call_later (asked.Next s) x (row-call calls xs (drop size fs) m)
+  row-call (asked.Row s ∷ calls) (answered.Row (Ok n) ∷ xs) fs m = go (Memᴰ.cases_cons m) (λ l. row-call calls xs (drop size fs) l)
     where
       rest : List Row
-      rest = rows_of (calls_of ks ss) (seen_in size cs ns ps (drop size fs))
+      rest = rows_of (calls_of calls) (seen_in size xs (drop size fs))
 
-      go : (a ≡ record { station = s; bytes = take n (take size fs) }) ⊎ Memᴰ a rest → (Memᴰ a rest → RowCall size ks ss cs ns (drop size fs) a) → RowCall size (0 ∷ ks) (s ∷ ss) (1 ∷ cs) (n ∷ ns) fs a
-      go (inl e) ih = call-here ks ss cs ns fs s n e
-      go (inr l) ih = call_later 0 s 1 n (ih l)
-  row-call (zero ∷ ks) (s ∷ ss) (suc (suc zero) ∷ cs) (n ∷ ns) (p ∷ ps) fs m = call_later 0 s 2 n (row-call ks ss cs ns ps (drop size fs) m)
-  row-call (zero ∷ ks) (s ∷ ss) (suc (suc (suc c)) ∷ cs) (n ∷ ns) (p ∷ ps) fs m = call_later 0 s (suc (suc (suc c))) n (row-call ks ss cs ns ps (drop size fs) m)
-  row-call (suc k ∷ ks) (s ∷ ss) (c ∷ cs) (n ∷ ns) (p ∷ ps) fs m = call_later (suc k) s c n (row-call ks ss cs ns ps (drop size fs) m)
+      go : (a ≡ record { station = s; bytes = take n (take size fs) }) ⊎ Memᴰ a rest → (Memᴰ a rest → RowCall size calls xs (drop size fs) a)
+          → RowCall size (asked.Row s ∷ calls) (answered.Row (Ok n) ∷ xs) fs a
+      go (inl e) ih = call-here calls xs fs s n e
+      go (inr l) ih = call_later (asked.Row s) (answered.Row (Ok n)) (ih l)
+  row-call (asked.Row s ∷ calls) (answered.Row (Err e) ∷ xs) fs m = call_later (asked.Row s) (answered.Row (Err e)) (row-call calls xs (drop size fs) m)
+  row-call (asked.Row s ∷ calls) (answered.Next (Err e) ∷ xs) fs m = call_later (asked.Row s) (answered.Next (Err e)) (row-call calls xs (drop size fs) m)
+  row-call (asked.Row s ∷ calls) (answered.Next (Ok (Some x)) ∷ xs) fs m = call_later (asked.Row s) (answered.Next (Ok (Some x))) (row-call calls xs (drop size fs) m)
+  row-call (asked.Row s ∷ calls) (answered.Next (Ok None) ∷ xs) fs m = call_later (asked.Row s) (answered.Next (Ok None)) (row-call calls xs (drop size fs) m)
 
 -- demand 3 of what was seen, where that is the machine's run
-pub blade-seen : (f b : List ℕ) (calls : List Call) {ts : List After} → ts ≡ trace f b calls → BladeSeen f calls ts
+pub blade-seen : (f b : List ℕ) (calls : List machine.Call) {ts : List After} → ts ≡ trace f b calls → BladeSeen f calls ts
 unfolding BladeSeen Close BladeClose
 blade-seen f b calls e = rw e (demand_3 f b calls)

@@ -1,40 +1,29 @@
--- The calls that two lists of numbers stand for, the two lists of any calls, and the machine's run on them.
-use Rattle.std.specs.Prelude.{ℕ, zero, suc, ◌≡◌, refl, List, [], ◌∷◌, length}
-use Rattle.std.proofs.Common.{ap}
-use Rattle.road.specs.Machine.{Call, row, next, After, trace}
+-- The plain machine's calls, as lent calls stand for them, and its run on them.
+use Rattle.std.specs.Prelude.{◌≡◌, refl, List, [], ◌∷◌, map, ℕ}
+use Rattle.std.proofs.Common.{ap₂}
+use Rattle.road.specs.Machine as machine
+use Rattle.road.specs.Machine.{After, trace}
+use Rattle.runs.specs.declared.Call.{Call}
+use Rattle.runs.specs.declared.Call.TheVariants.{Row, Next}
 
--- kind 0 is a row call, any other a next call
-abbrev pub call_of : (kind station : ℕ) → Call
-call_of zero s = row s
-call_of (suc _) s = next s
+-- the machine's call
+abbrev pub call_of : Call → machine.Call
+call_of (Row s) = machine.row s
+call_of (Next s) = machine.next s
 
-abbrev pub calls_of : (kinds stations : List ℕ) → List Call
-calls_of [] ss = []
-calls_of (k ∷ ks) [] = []
-calls_of (k ∷ ks) (s ∷ ss) = call_of k s ∷ calls_of ks ss
+abbrev pub calls_of : List Call → List machine.Call
+calls_of = map call_of
 
--- the kinds and the stations of calls
-abbrev pub kinds_of : List Call → List ℕ
-kinds_of [] = []
-kinds_of (row s ∷ calls) = 0 ∷ kinds_of calls
-kinds_of (next s ∷ calls) = 1 ∷ kinds_of calls
+-- any calls of the machine, as they are lent
+abbrev pub lent : machine.Call → Call
+lent (machine.row s) = Row s
+lent (machine.next s) = Next s
 
-abbrev pub stations_of : List Call → List ℕ
-stations_of [] = []
-stations_of (row s ∷ calls) = s ∷ stations_of calls
-stations_of (next s ∷ calls) = s ∷ stations_of calls
-
--- they stand for those calls, and there are as many of each
-pub calls_back : (calls : List Call) → calls_of (kinds_of calls) (stations_of calls) ≡ calls
+pub calls_back : (calls : List machine.Call) → calls_of (map lent calls) ≡ calls
 calls_back [] = refl
-calls_back (row s ∷ calls) = ap (λ (l : List Call). row s ∷ l) (calls_back calls)
-calls_back (next s ∷ calls) = ap (λ (l : List Call). next s ∷ l) (calls_back calls)
-
-pub calls-even : (calls : List Call) → length (stations_of calls) ≡ length (kinds_of calls)
-calls-even [] = refl
-calls-even (row s ∷ calls) = ap suc (calls-even calls)
-calls-even (next s ∷ calls) = ap suc (calls-even calls)
+calls_back (machine.row s ∷ calls) = ap₂ (λ c cs. c ∷ cs) refl (calls_back calls)
+calls_back (machine.next s ∷ calls) = ap₂ (λ c cs. c ∷ cs) refl (calls_back calls)
 
 -- the plain machine's run on those calls
-unfoldable pub run_of : (file buffer kinds stations : List ℕ) → List After
-run_of f b ks ss = trace f b (calls_of ks ss)
+unfoldable pub run_of : (file buffer : List ℕ) → List Call → List After
+run_of f b cs = trace f b (calls_of cs)

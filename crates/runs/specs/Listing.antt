@@ -10,6 +10,8 @@ use Rattle.road.specs.Listing.{listing_calls}
 use Rattle.laws_of_stations.specs.Visits.{row_at}
 use Rattle.runs.specs.Calls.{calls_of}
 use Rattle.runs.specs.Recorded.{seen_in}
+use Rattle.runs.specs.declared.Call.{Call}
+use Rattle.runs.specs.declared.Answer.{Answer}
 
 -- "the stations of its rows are exactly the listed ones, in order", from 0 to T, and its rows are the lines there
 pub record ListingRows (r : Road) (rows : List Row) : Type 0 where
@@ -21,8 +23,8 @@ pub record ListingRows (r : Road) (rows : List Row) : Type 0 where
   pub last : listed r ≡ before_last ++ (total r ∷ [])
 
 -- of a recorded run whose calls are the listing program's, "on a file that is not turned away and in a buffer of 96 bytes or more"
-unfoldable pub ListingRecorded : (file buffer kinds stations codes firsts seconds frames : List ℕ) → Type 0
-ListingRecorded f b ks ss cs ns ps fs =
-    calls_of ks ss ≡ listing_calls f
+unfoldable pub ListingRecorded : (file buffer : List ℕ) → List Call → List Answer → (frames : List ℕ) → Type 0
+ListingRecorded f b calls xs fs =
+    calls_of calls ≡ listing_calls f
     → (r : Road) (end : ℕ) → accepted f ≡ got r end → 96 ≤ length b
-    → ListingRows r (rows_of (calls_of ks ss) (seen_in (length b) cs ns ps fs))
+    → ListingRows r (rows_of (calls_of calls) (seen_in (length b) xs fs))

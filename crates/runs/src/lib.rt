@@ -2,211 +2,94 @@
 
 #![tactic(auto)]
 
-ghost use Rattle.std.specs.Prelude.{◌≡◌, true, false, ◌++◌, ℕ, ◌+◌, ◌*◌, ◌≤◌, eqb, length, take, drop};
+ghost use Rattle.std.specs.Prelude.{◌≡◌, ◌+◌, ◌*◌, ℕ, eqb, is_ok, length, OnErr, OnOk};
 ghost use Rattle.file_numbers.specs.Reading.{refused};
 ghost use Rattle.road.specs.Rules.{accepted};
-ghost use Rattle.road.specs.Machine.{of_row, of_next, step};
-ghost use Rattle.runs.specs.Answers.{numbers_of};
+ghost use Rattle.road.specs.Machine.{step};
 ghost use Rattle.runs.specs.Calls.{call_of};
-ghost use Rattle.runs.specs.Recorded.{Recorded, CallRecorded, Room, Lent, sized};
+ghost use Rattle.runs.specs.Answers.{answer_of};
+ghost use Rattle.runs.specs.Recorded.{Recorded, sized};
 ghost use Rattle.runs.specs.RecordedRows.{BladeRecorded, TurnedAway};
 ghost use Rattle.runs.specs.Listing.{ListingRecorded};
 
-use road::{NextAnswer, RowAnswer};
+use road::Refusal;
 
-// An answer as three numbers: 0 a refusal, 1 a line's length, 2 a station, 3 no station; then what it says.
+// A call: for the row of a station, or for the least listed station not below one.
 #[derive(Clone, Copy)]
-pub struct AnswerNumbers {
-    pub code: u8,
-    pub first: u64,
-    pub second: u64,
+pub enum Call {
+    Row(u64),
+    Next(u64),
 }
 
-// The numbers of a row call's answer.
-pub fn row_numbers(answer: RowAnswer) -> AnswerNumbers
-    ensures { result ≡ numbers_of (of_row answer) }
-{
-    match answer {
-        RowAnswer::Refused(number, place) => AnswerNumbers {
-            code: 0,
-            first: number as u64,
-            second: place as u64,
-        },
-        RowAnswer::Length(length) => AnswerNumbers {
-            code: 1,
-            first: length as u64,
-            second: 0,
-        },
+// What a call answered.
+#[derive(Clone, Copy)]
+pub enum Answer {
+    Row(Result<usize, Refusal>),
+    Next(Result<Option<u64>, Refusal>),
+}
+
+// The slices lent to a run do not have the sizes that its record takes.
+#[derive(Clone, Copy, Debug)]
+pub struct OtherSizes;
+
+impl Call {
+    // The call's answer; a row goes over the first bytes of the line.
+    #[tactic(auto, unfolding(road::specs::Machine::step))]
+    pub fn answer(self, file: &[u8], line: &mut [u8]) -> Answer
+        ensures value { answer_of result ≡ (step file.now line.old (call_of self)).answer }
+        ensures line_after { line.new ≡ (step file.now line.old (call_of self)).buffer }
+    {
+        match self {
+            Call::Row(station) => Answer::Row(stationing::row(file, station, line)),
+            Call::Next(station) => Answer::Next(stationing::next_station(file, station)),
+        }
     }
 }
 
-// The numbers of a next call's answer.
-pub fn next_numbers(answer: NextAnswer) -> AnswerNumbers
-    ensures { result ≡ numbers_of (of_next answer) }
-{
-    match answer {
-        NextAnswer::Refused(number, place) => AnswerNumbers {
-            code: 0,
-            first: number as u64,
-            second: place as u64,
-        },
-        NextAnswer::Station(station) => AnswerNumbers {
-            code: 2,
-            first: station,
-            second: 0,
-        },
-        NextAnswer::Nothing => AnswerNumbers {
-            code: 3,
-            first: 0,
-            second: 0,
-        },
-    }
-}
-
-// One call: kind 0 is a row call, any other a next call.
-pub fn call(file: &[u8], kind: u8, station: u64, line: &mut [u8]) -> AnswerNumbers
-    ensures value { result ≡ numbers_of (step file.now line.old (call_of kind station)).answer }
-    ensures line_after { line.new ≡ (step file.now line.old (call_of kind station)).buffer }
-{
-    if kind == 0 {
-        row_numbers(stationing::row(file, station, line))
-    } else {
-        next_numbers(stationing::next_station(file, station))
-    }
-}
-
-// Writes the bytes of source over those of target from a place on.
-fn put_at(target: &mut [u8], at: usize, source: &[u8])
-    requires { at + length source.now ≤ length target.old }
-    ensures { target.new ≡ take at target.old ++ source.now ++ drop (at + length source.now) target.old }
-{
-    let mut i = 0;
-    while i < source.len() {
-        target[at + i] = source[i];
-        i += 1;
-    }
-}
-
-// One call, written down: its answer's numbers at place k, every byte of line from place at on.
-fn record_call(
-    file: &[u8],
-    kind: u8,
-    station: u64,
-    line: &mut [u8],
-    k: usize,
-    at: usize,
-    codes: &mut [u8],
-    firsts: &mut [u64],
-    seconds: &mut [u64],
-    frames: &mut [u8],
-)
-    requires { Room k at (length line.old) (length codes.old) (length firsts.old) (length seconds.old) (length frames.old) }
-    ensures { CallRecorded file.now line.old (call_of kind station) k at codes.old firsts.old seconds.old frames.old line.new codes.new firsts.new seconds.new frames.new }
-{
-    let answer = call(file, kind, station, line);
-    codes[k] = answer.code;
-    firsts[k] = answer.first;
-    seconds[k] = answer.second;
-    put_at(frames, at, line);
-}
-
-// The calls that kinds and stations stand for, one after the other, each with line as the last one left it. After each call its answer is
-// written down as three numbers, and every byte of line behind those of the calls before.
+// The calls one after the other, each with the line as the last one left it. After each call its answer is written down, and every byte of the
+// line behind those of the calls before.
 fn run_sized(
     file: &[u8],
-    kinds: &[u8],
-    stations: &[u64],
+    calls: &[Call],
     line: &mut [u8],
-    codes: &mut [u8],
-    firsts: &mut [u64],
-    seconds: &mut [u64],
+    answers: &mut [Answer],
     frames: &mut [u8],
 )
-    requires { Lent (length kinds.now) (length stations.now) (length codes.old) (length firsts.old) (length seconds.old) (length line.old) (length frames.old) }
-    ensures recorded { Recorded file.now line.old kinds.now stations.now line.new codes.new firsts.new seconds.new frames.new }
-    ensures blade { BladeRecorded file.now (length line.old) kinds.now stations.now codes.new firsts.new frames.new }
-    ensures listing { ListingRecorded file.now line.old kinds.now stations.now codes.new firsts.new seconds.new frames.new }
-    ensures refused { (n p : ℕ) → accepted file.now ≡ refused n p → TurnedAway n p line.old kinds.now line.new codes.new firsts.new seconds.new frames.new }
+    requires answers { length answers.old ≡ length calls.now }
+    requires frames { length frames.old ≡ length calls.now * length line.old }
+    ensures recorded { Recorded file.now line.old calls.now line.new answers.new frames.new }
+    ensures blade { BladeRecorded file.now (length line.old) calls.now answers.new frames.new }
+    ensures listing { ListingRecorded file.now line.old calls.now answers.new frames.new }
+    ensures refused { (n p : ℕ) → accepted file.now ≡ refused n p → TurnedAway n p line.old calls.now line.new answers.new frames.new }
 {
-    let mut k = 0;
-    let mut at = 0;
-    while k < kinds.len() {
-        record_call(
-            file,
-            kinds[k],
-            stations[k],
-            line,
-            k,
-            at,
-            codes,
-            firsts,
-            seconds,
-            frames,
-        );
-        at += line.len();
-        k += 1;
+    let size = line.len();
+    // by place: of what a chain over the two lent slices wrote, a proof knows no item
+    for (k, call) in calls.iter().enumerate() {
+        answers[k] = call.answer(file, line);
+        let at = k * size;
+        frames[at..at + size].copy_from_slice(line);
     }
 }
 
-// Whether frames is count times size.
-fn fits_exactly(frames: usize, count: usize, size: usize) -> bool
-    ensures { result ≡ eqb frames (count * size) }
-{
-    if size == 0 {
-        return frames == 0;
-    }
-    if frames % size != 0 {
-        return false;
-    }
-    frames / size == count
-}
-
-// Whether what is lent has the sizes that the record of a run takes, with this count of calls and this size of buffer.
-fn all_sized(
-    count: usize,
-    stations: usize,
-    codes: usize,
-    firsts: usize,
-    seconds: usize,
-    size: usize,
-    frames: usize,
-) -> bool
-    ensures { result ≡ sized count stations codes firsts seconds size frames }
-{
-    let even = (((stations == count) & (codes == count)) & (firsts == count)) & (seconds == count);
-    even & fits_exactly(frames, count, size)
-}
-
-// The calls that kinds and stations stand for, one after the other on one file and one buffer, written down; where what is lent does not have the
-// sizes that the record takes, nothing is done.
+// The calls one after the other on one file and one line, written down; where what is lent does not have the sizes that the record takes, nothing is done.
 pub fn run(
     file: &[u8],
-    kinds: &[u8],
-    stations: &[u64],
+    calls: &[Call],
     line: &mut [u8],
-    codes: &mut [u8],
-    firsts: &mut [u64],
-    seconds: &mut [u64],
+    answers: &mut [Answer],
     frames: &mut [u8],
-) -> bool
-    ensures sized { result ≡ sized (length kinds.now) (length stations.now) (length codes.old) (length firsts.old) (length seconds.old) (length line.old) (length frames.old) }
-    ensures recorded { result ≡ true → Recorded file.now line.old kinds.now stations.now line.new codes.new firsts.new seconds.new frames.new }
-    ensures blade { result ≡ true → BladeRecorded file.now (length line.old) kinds.now stations.now codes.new firsts.new frames.new }
-    ensures listing { result ≡ true → ListingRecorded file.now line.old kinds.now stations.now codes.new firsts.new seconds.new frames.new }
-    ensures refused { result ≡ true → (n p : ℕ) → accepted file.now ≡ refused n p → TurnedAway n p line.old kinds.now line.new codes.new firsts.new seconds.new frames.new }
-    ensures untouched { result ≡ false → (line.new ≡ line.old) × (codes.new ≡ codes.old) × (firsts.new ≡ firsts.old) × (seconds.new ≡ seconds.old) × (frames.new ≡ frames.old) }
+) -> Result<(), OtherSizes>
+    ensures sized { is_ok result ≡ sized (length calls.now) (length answers.old) (length line.old) (length frames.old) }
+    ensures recorded { OnOk result (Recorded file.now line.old calls.now line.new answers.new frames.new) }
+    ensures blade { OnOk result (BladeRecorded file.now (length line.old) calls.now answers.new frames.new) }
+    ensures listing { OnOk result (ListingRecorded file.now line.old calls.now answers.new frames.new) }
+    ensures refused { OnOk result ((n p : ℕ) → accepted file.now ≡ refused n p → TurnedAway n p line.old calls.now line.new answers.new frames.new) }
+    ensures untouched { OnErr result ((line.new ≡ line.old) × (answers.new ≡ answers.old) × (frames.new ≡ frames.old)) }
 {
-    if all_sized(
-        kinds.len(),
-        stations.len(),
-        codes.len(),
-        firsts.len(),
-        seconds.len(),
-        line.len(),
-        frames.len(),
-    ) {
-        run_sized(file, kinds, stations, line, codes, firsts, seconds, frames);
-        return true;
+    let count = calls.len();
+    if answers.len() != count || count.checked_mul(line.len()) != Some(frames.len()) {
+        return Err(OtherSizes);
     }
-    false
+    run_sized(file, calls, line, answers, frames);
+    Ok(())
 }

@@ -1,0 +1,70 @@
+-- The machine's answer to each call, as the routines give it.
+use Rattle.std.specs.Prelude.{◌≡◌, refl, Bool, true, false, if◌then◌else◌, List, ℕ, zero, suc, length, ltb, Option, Some, None, Result, Ok, Err}
+use Rattle.std.proofs.Common.{◌⊎◌, inl, inr, ap, arith}
+use Rattle.file_numbers.specs.Reading.{Got, got, refused}
+use Rattle.road.specs.File.{Road, read}
+use Rattle.road.specs.Exact.{total}
+use Rattle.road.specs.Faults.{fault_number}
+use Rattle.road.specs.Line.{line}
+use Rattle.road.specs.Listed.{next_listed}
+use Rattle.road.specs.Rules.{order, accepted}
+use Rattle.road.specs.declared.refusal.Fault.{Fault}
+use Rattle.road.specs.declared.refusal.Fault.TheVariants.{LongFile, BrokenNumber, OutOfRange, BytesBehind, Broken, ShortBuffer, BeyondEnd, NoDay}
+use Rattle.road.specs.declared.refusal.Refusal.{Refusal}
+use Rattle.road.specs.Machine.{refusal, wrote, of_row, of_next, row_on, row_answer, station_or, next_on, next_answer, step}
+use Rattle.laws_of_acceptance.specs.Judging.{rule_at}
+use Rattle.laws_of_acceptance.specs.Refusals.{ByRule, WithinOr, refused_iff, read_number}
+use Rattle.runs.specs.Answers.{answer_of}
+use Rattle.runs.specs.Calls.{call_of}
+use Rattle.runs.specs.declared.Call.{Call}
+use Rattle.runs.specs.declared.Answer.{Answer}
+use Rattle.runs.specs.declared.Call.TheVariants as asked
+use Rattle.runs.specs.declared.Answer.TheVariants as answered
+
+-- what a file that does not read is refused for
+read-fault : (n : ℕ) → WithinOr 1 4 22 n → (e : Fault) × (fault_number e ≡ n)
+read-fault zero (inl w) = absurd (let l = w.low in omega arith)
+read-fault (suc zero) (inl w) = (LongFile, refl)
+read-fault (suc (suc zero)) (inl w) = (BrokenNumber, refl)
+read-fault (suc (suc (suc zero))) (inl w) = (OutOfRange, refl)
+read-fault (suc (suc (suc (suc zero)))) (inl w) = (BytesBehind, refl)
+read-fault (suc (suc (suc (suc (suc n))))) (inl w) = absurd (let h = w.high in omega arith)
+read-fault n (inr e) = (NoDay, cc)
+
+-- what a file is turned away for
+fault : (f : List ℕ) (n p : ℕ) → accepted f ≡ refused n p → (e : Fault) × (fault_number e ≡ n)
+fault f n p e = go ((refused_iff f n p).0 e)
+  where
+    go : (read f ≡ refused n p) ⊎ ByRule f n p → (e : Fault) × (fault_number e ≡ n)
+    go (inl r) = read-fault n (read_number f n p r)
+    go (inr b) = (Broken (rule_at order b.lowest.place), b.lowest.number)
+
+pub row-answer : (f : List ℕ) (s room : ℕ) → (r : Result ℕ Refusal) × (of_row r ≡ row_answer f s room)
+unfolding row_answer
+row-answer f s room = by (accepted f) refl
+  where
+    by : (g : Got Road) → accepted f ≡ g → (r : Result ℕ Refusal) × (of_row r ≡ row_on s room g)
+    by (refused n p) e = let w = fault f n p e in (Err (record { fault = w.0; place = p }), ap (λ (k : ℕ). refusal k p) w.1)
+    by (got r end) e = tests (ltb room 96) (ltb (total r) s)
+      where
+        tests : (c d : Bool) → (a : Result ℕ Refusal) × (of_row a ≡ (if c then refusal 20 0 else (if d then refusal 21 0 else wrote (length (line r s)))))
+        tests true d = (Err (record { fault = ShortBuffer; place = 0 }), refl)
+        tests false true = (Err (record { fault = BeyondEnd; place = 0 }), refl)
+        tests false false = (Ok (length (line r s)), refl)
+
+pub next-answer : (f : List ℕ) (s : ℕ) → (r : Result (Option ℕ) Refusal) × (of_next r ≡ next_answer f s)
+unfolding next_answer
+next-answer f s = by (accepted f) refl
+  where
+    listed : (o : Option ℕ) → of_next (Ok o) ≡ station_or o
+    listed (Some x) = refl
+    listed None = refl
+
+    by : (g : Got Road) → accepted f ≡ g → (r : Result (Option ℕ) Refusal) × (of_next r ≡ next_on s g)
+    by (refused n p) e = let w = fault f n p e in (Err (record { fault = w.0; place = p }), ap (λ (k : ℕ). refusal k p) w.1)
+    by (got r end) e = (Ok (next_listed r s), listed (next_listed r s))
+
+pub call-answer : (f b : List ℕ) (c : Call) → (x : Answer) × (answer_of x ≡ (step f b (call_of c)).answer)
+unfolding step
+call-answer f b (asked.Row s) = let r = row-answer f s (length b) in (answered.Row r.0, r.1)
+call-answer f b (asked.Next s) = let r = next-answer f s in (answered.Next r.0, r.1)
