@@ -16,16 +16,14 @@ use road::Refusal;
 use std::io;
 use std::io::Write;
 
-// Writes n and the byte `after` behind it, and returns how many bytes that takes.
+// A field of a number without a sign, which takes at most 21 bytes.
 #[tactic(auto, using(crate::specs::RefusalLine::short))]
 fn put_number(line: &mut [u8], n: u64, after: u8) -> usize
     requires { 21 ≤ length line.old }
     ensures wrote { Wrote line.old line.new 0 (digits n ++ (after ∷ [])) result }
     ensures most { result ≤ 21 }
 {
-    let end = decimal::put_digits(line, n);
-    line[end] = after;
-    end + 1
+    decimal::put_field(line, n, after)
 }
 
 // "R", number and place of a refusal over the first bytes of the line, and its length.

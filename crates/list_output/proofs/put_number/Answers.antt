@@ -1,8 +1,8 @@
--- A number has at most 20 digits, so it and the byte after it have room.
-use Rattle.std.proofs.Common.{arith}
-use Rattle.decimal.specs.Written.{wrote_byte}
+-- A number has at most 20 digits, and the byte stands behind it.
+use Rattle.std.proofs.Common.{[], ◌∷◌, length-append, arith}
+use Rattle.decimal.specs.Decimal.{digits}
 use Rattle.list_output.specs.RefusalLine.{digits-short}
 use Rattle.list_output.proofs.put_number.Goals as goal
 
-pub returns-clause-wrote : goal.returns-clause-wrote
-returns-clause-wrote c = wrote_byte c.args.after c.put_digits-end.ensures (omega (arith, digits-short c.args.n c.ranges.n.fits, c.requires))
+pub returns-clause-most : goal.returns-clause-most
+returns-clause-most c = omega (arith, c.put_field.ensures.end, length-append (digits c.args.n) (c.args.after ∷ []), digits-short c.args.n c.ranges.n.fits)
