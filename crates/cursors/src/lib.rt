@@ -9,7 +9,7 @@ ghost use Rattle.cursors.specs.Places.{Reached, ElementReached, ElementFound, Ta
 ghost use Rattle.cursors.specs.View.{Viewed};
 
 use accepted_road::AcceptedRoad;
-use road::{Element, Kind, Tangent};
+use road::{Element, Tangent};
 use segment::{Curvature, Piece, Segment, Sides};
 use segment_parts::TangentPlace;
 
@@ -53,20 +53,8 @@ pub struct View {
     pub segment: Segment,
 }
 
-// Past either end of a list stands the blank item.
-const BLANK_ELEMENT: Element = Element {
-    kind: Kind::Straight,
-    length: 0,
-    radius: 0,
-};
-
-const BLANK_TANGENT: Tangent = Tangent {
-    length: 0,
-    grade: 0,
-    half: 0,
-};
-
 // ---- the three cursors, which only move forward
+// They go on by index: a place keeps the index of its item, and a chain over the items would have to count beside them.
 
 // The last element that begins at or before x, from one that does.
 fn element_from(road: &AcceptedRoad, first: usize, start: u64, x: u64) -> ElementPlace
@@ -84,11 +72,11 @@ fn element_from(road: &AcceptedRoad, first: usize, start: u64, x: u64) -> Elemen
         e = elements[i];
     }
     let before = if i == 0 {
-        BLANK_ELEMENT
+        Element::BLANK
     } else {
         elements[i - 1]
     };
-    let after = elements.get(i + 1).copied().unwrap_or(BLANK_ELEMENT);
+    let after = elements.get(i + 1).copied().unwrap_or(Element::BLANK);
     let curvature = segment_parts::curvature_of(before, e, after);
     ElementPlace {
         index: i,
@@ -113,7 +101,7 @@ fn profile_from(road: &AcceptedRoad, first: TangentPlace, x: u64) -> ProfilePlac
     let next = tangents
         .get(tangent.index + 1)
         .copied()
-        .unwrap_or(BLANK_TANGENT);
+        .unwrap_or(Tangent::BLANK);
     let piece = tangent.piece(t, next, x);
     ProfilePlace { tangent, piece }
 }

@@ -36,6 +36,7 @@ pub fn fill<R: Read>(reader: &mut R, buffer: &mut [u8]) -> Result<usize, ReadFai
     ensures first { Consumes (R.remaining reader.old) (R.remaining reader.new) (take (count_of result) buffer.new) }
     ensures all { OnOk result (count_of result < length buffer.new → IsAtEnd (R.remaining reader.new)) }
 {
+    // single reads: `read_exact` says nothing of the buffer after an error, nor of an input that ends before it is full
     let mut count = 0;
     while count < buffer.len() {
         match reader.read(&mut buffer[count..]) {

@@ -81,6 +81,7 @@ fn rows_on(road: &AcceptedRoad, first: u64, out: &mut [u8]) -> Chunk
     let step = road.step();
     let mut walk = Walk::begin(road, first);
     let mut bytes: usize = 0;
+    // the walk moves itself, by multiples and joints: no list is passed that a `for` could name
     while walk.station <= road.total() {
         while walk.station < walk.view.joint {
             if out.len() - bytes < 96 {
