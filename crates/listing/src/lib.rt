@@ -15,7 +15,7 @@ fn put_rows(road: &AcceptedRoad, station: u64, out: &mut [u8]) -> Result<Chunk, 
     ensures result_value { of_result result ≡ list_from road.now station (length out.old) }
     ensures out_after { out.new ≡ rows_from road.now station out.old }
 {
-    if out.len() < 96 {
+    if out.len() < segment::LINE_BYTES {
         return Err(Fault::ShortBuffer.at(0));
     }
     Ok(walk::rows_from(road, station, out))

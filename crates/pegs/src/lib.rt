@@ -36,7 +36,7 @@ fn rows_in(road: &AcceptedRoad, stations: &[u64], out: &mut [u8]) -> Result<usiz
     ensures out_after { out.new ≡ buffer_of road.now stations.now out.old }
 {
     // a quotient, since 96 times any count might not fit
-    if out.len() / 96 < stations.len() {
+    if out.len() / segment::LINE_BYTES < stations.len() {
         return Err(Fault::ShortBuffer.at(0));
     }
     if let Some(bad) = peg_list::first_bad(stations, road.total()) {

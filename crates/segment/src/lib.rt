@@ -40,6 +40,9 @@ pub struct Sides {
     pub right: Ramp,
 }
 
+// No line is longer than this.
+pub const LINE_BYTES: usize = 96;
+
 // The curvature at an end of an element, turn / radius: of an arc 10⁹ with the radius' sign over the radius' size, of a straight 0 over 1.
 #[derive(Clone, Copy)]
 pub struct End {

@@ -26,7 +26,7 @@ fn row_in(road: &AcceptedRoad, station: u64, line: &mut [u8]) -> Result<usize, R
     ensures result_value { of_row result ≡ row_of road.now station (length line.old) }
     ensures line_after { line.new ≡ buffer_of road.now station line.old }
 {
-    if line.len() < 96 {
+    if line.len() < segment::LINE_BYTES {
         return Err(Fault::ShortBuffer.at(0));
     }
     if road.total() < station {

@@ -84,7 +84,8 @@ fn rows_on(road: &AcceptedRoad, first: u64, out: &mut [u8]) -> Chunk
     // the walk moves itself, by multiples and joints: no list is passed that a `for` could name
     while walk.station <= road.total() {
         while walk.station < walk.view.joint {
-            if out.len() - bytes < 96 {
+            let room = out.len() - bytes;
+            if room < segment::LINE_BYTES {
                 return Chunk {
                     bytes,
                     next: Some(walk.station),

@@ -9,13 +9,13 @@ pub loop-walk-init : goal.loop-walk-init
 loop-walk-init c = let e = c.begin-walk.ensures in record { walking = walking_starts c.args.out.now e; inside = entered-inside e }
 
 -- less than 96 bytes remain
-pub returns-then-out-bytes-lt96-clause-value : goal.returns-then-out-bytes-lt96-clause-value
-returns-then-out-bytes-lt96-clause-value c =
+pub returns-then-room-lt-LINE_BYTES-clause-value : goal.returns-then-room-lt-LINE_BYTES-clause-value
+returns-then-room-lt-LINE_BYTES-clause-value c =
     let k = c.loop-walk-2.invariant.walking in
     (full c.step-step.ensures.guaranteed k c.loop-walk-2-test.true (omega (arith, going-length k.going))).0
 
-pub returns-then-out-bytes-lt96-clause-out_after : goal.returns-then-out-bytes-lt96-clause-out_after
-returns-then-out-bytes-lt96-clause-out_after c =
+pub returns-then-room-lt-LINE_BYTES-clause-out_after : goal.returns-then-room-lt-LINE_BYTES-clause-out_after
+returns-then-room-lt-LINE_BYTES-clause-out_after c =
     let k = c.loop-walk-2.invariant.walking in
     (full c.step-step.ensures.guaranteed k c.loop-walk-2-test.true (omega (arith, going-length k.going))).1
 
