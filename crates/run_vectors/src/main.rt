@@ -2,136 +2,119 @@
 
 #![tactic(auto)]
 
-ghost use Rattle.std.specs.Prelude.{◌≡◌, length};
+ghost use Rattle.std.specs.Prelude.{◌≡◌, ◌<◌, ◌≤◌, length, IfSome, IfOk};
 
-use road::{NextAnswer, RowAnswer};
+use runs::{Answer, Call};
+use std::io;
 
-fn hex_digit(n: u8) -> u8 {
-    if n < 10 {
-        48 + n
-    } else if n < 16 {
-        87 + n
-    } else {
-        63
+// A run of the input: its file, what its buffer begins with, how many calls it has, and the bytes from these on.
+#[derive(Clone, Copy)]
+struct Run<'a> {
+    file: &'a [u8],
+    line: &'a [u8],
+    count: u32,
+    calls: &'a [u8],
+}
+
+// ---- the input
+
+// The run at the front of the input.
+fn split_run(input: &[u8]) -> Option<Run<'_>>
+    ensures { IfSome result (λ r. length r.calls.now < length input.now) }
+{
+    let (file, rest) = cases::split_part(input)?;
+    let (line, rest) = cases::split_part(rest)?;
+    let (count, calls) = cases::split_number(rest)?;
+    Some(Run {
+        file,
+        line,
+        count,
+        calls,
+    })
+}
+
+// The call at the front of the input: its kind, 0 for a row, and the two halves of its station; and the bytes behind it.
+fn split_call(input: &[u8]) -> Option<(Call, &[u8])>
+    ensures { IfSome result (λ p. length p.1.now < length input.now) }
+{
+    let (kind, rest) = cases::split_number(input)?;
+    let (high, rest) = cases::split_number(rest)?;
+    let (low, rest) = cases::split_number(rest)?;
+    let station = u64::from(high) << 32 | u64::from(low);
+    let call = match kind {
+        0 => Call::Row(station),
+        _ => Call::Next(station),
+    };
+    Some((call, rest))
+}
+
+// ---- the output
+
+fn show_call(rt: &impl Print, call: Call) -> io::Result<()> {
+    match call {
+        Call::Row(station) => print!(rt; "row {station}: "),
+        Call::Next(station) => print!(rt; "next {station}: "),
     }
 }
 
-fn show_bytes(rt: &impl Print, bytes: &[u8]) {
-    let mut i = 0;
-    while i < bytes.len() {
-        let b = bytes[i];
-        let _ = rt.write_all(&[hex_digit(b / 16), hex_digit(b % 16)]);
-        i += 1;
-    }
-    let _ = println!(rt; "");
-}
-
-fn show_after(rt: &impl Print, line: &[u8]) {
-    let _ = print!(rt; " | ");
-    show_bytes(rt, line);
-}
-
-fn show_refusal(rt: &impl Print, number: u32, place: usize) {
-    let _ = print!(rt; "R {number} {place}");
-}
-
-fn call_row(rt: &impl Print, file: &[u8], station: u64, line: &mut [u8]) {
-    let _ = print!(rt; "row {station}: ");
-    match stationing::row(file, station, line) {
-        RowAnswer::Refused(number, place) => {
-            show_refusal(rt, number, place);
-        }
-        RowAnswer::Length(length) => {
-            let _ = print!(rt; "len {length}");
-        }
-    }
-}
-
-fn call_next(rt: &impl Print, file: &[u8], station: u64) {
-    let _ = print!(rt; "next {station}: ");
-    match stationing::next_station(file, station) {
-        NextAnswer::Refused(number, place) => {
-            show_refusal(rt, number, place);
-        }
-        NextAnswer::Station(next) => {
-            let _ = print!(rt; "station {next}");
-        }
-        NextAnswer::Nothing => {
-            let _ = print!(rt; "none");
-        }
-    }
-}
-
-// One call of kind 0, a row, or 1, a next station, and the buffer after it.
-fn call(rt: &impl Print, file: &[u8], kind: u64, station: u64, line: &mut [u8]) {
-    if kind == 0 {
-        call_row(rt, file, station, line);
-        show_after(rt, line);
-        return;
-    }
-    call_next(rt, file, station);
-    show_after(rt, line);
-}
-
-// The station of two halves.
-fn station_of(high: u64, low: u64) -> u64 {
-    if high < 4294967296 {
-        if low < 4294967296 {
-            return high * 4294967296 + low;
+fn show_answer(rt: &impl Print, answer: Answer) -> io::Result<()> {
+    match answer {
+        Answer::Row(Ok(length)) => print!(rt; "len {length}"),
+        Answer::Next(Ok(Some(station))) => print!(rt; "station {station}"),
+        Answer::Next(Ok(None)) => print!(rt; "none"),
+        Answer::Row(Err(refusal)) | Answer::Next(Err(refusal)) => {
+            print!(rt; "R {} {}", refusal.fault.number(), refusal.place)
         }
     }
-    0
 }
 
-// So many calls, which the input has from a place on; the place after them.
-fn run_calls(
-    rt: &impl Print,
-    input: &[u8],
-    at: usize,
-    count: u64,
-    file: &[u8],
-    line: &mut [u8],
-) -> usize {
-    let mut next = at;
-    let mut i: u64 = 0;
-    while i < count {
-        let kind = cases::item_at(input, next);
-        let high = cases::item_at(input, kind.next);
-        let low = cases::item_at(input, high.next);
-        call(
-            rt,
-            file,
-            kind.value,
-            station_of(high.value, low.value),
-            line,
-        );
-        next = low.next;
-        i += 1;
+fn show_bytes(rt: &impl Print, bytes: &[u8]) -> io::Result<()> {
+    for b in bytes {
+        print!(rt; "{b:02x}")?;
     }
-    next
+    println!(rt; "")
 }
 
-// The run that the input has from a place on; the place after it.
-fn one_run(rt: &impl Print, input: &[u8], at: usize) -> usize {
-    let file_part = cases::part_at(input, at);
-    let from = file_part.from;
-    let end = file_part.end;
-    let file = &input[from..end];
-    let line_part = cases::part_at(input, end);
-    let begin = line_part.from;
-    let stop = line_part.end;
-    let first = &input[begin..stop];
+// ---- the runs
+
+// One call, its answer, and the buffer after it.
+fn make_call(rt: &impl Print, file: &[u8], call: Call, line: &mut [u8]) -> io::Result<()> {
+    show_call(rt, call)?;
+    show_answer(rt, call.answer(file, line))?;
+    print!(rt; " | ")?;
+    show_bytes(rt, line)
+}
+
+// The calls of a run; the bytes behind them, none where its buffer is over 256 bytes.
+fn make_run<'a>(rt: &impl Print, run: Run<'a>) -> io::Result<&'a [u8]>
+    ensures { IfOk result (λ rest. length rest.now ≤ length run.entry.calls.now) }
+{
     let mut space = [0u8; 256];
-    let size = first.len();
-    if 256 < size {
-        return input.len();
+    let size = run.line.len();
+    if space.len() < size {
+        return Ok(&[]);
     }
-    let line: &mut [u8] = &mut space[..size];
-    line.copy_from_slice(first);
-    let _ = print!(rt; "buffer ");
-    show_bytes(rt, line);
-    let calls = cases::item_at(input, stop);
-    run_calls(rt, input, calls.next, calls.value, file, line)
+    let line = &mut space[..size];
+    line.copy_from_slice(run.line);
+    print!(rt; "buffer ")?;
+    show_bytes(rt, line)?;
+    let mut calls = run.calls;
+    for _ in 0..run.count {
+        let Some((call, rest)) = split_call(calls) else {
+            break;
+        };
+        make_call(rt, run.file, call, line)?;
+        calls = rest;
+    }
+    Ok(calls)
+}
+
+fn make_runs(rt: &impl Print, input: &[u8]) -> io::Result<()> {
+    let mut rest = input;
+    while let Some(run) = split_run(rest) {
+        rest = make_run(rt, run)?;
+    }
+    Ok(())
 }
 
 // Room for all of the input; its length is what lending it asks for.
@@ -141,16 +124,8 @@ fn room() -> [u8; 524288]
     [0; 524288]
 }
 
-fn main(rt: HostRuntime) {
+fn main(rt: HostRuntime) -> io::Result<()> {
     let mut space = room();
     let count = streams::read_full(&mut rt.stdin(), &mut space);
-    let input = &space[..count];
-    let mut at = 0;
-    while at < input.len() {
-        let next = one_run(&rt, input, at);
-        if next <= at {
-            return;
-        }
-        at = next;
-    }
+    make_runs(&rt, &space[..count])
 }

@@ -15,9 +15,10 @@ use Rattle.laws_of_acceptance.specs.Refusals.{ByRule, refused_iff, read_number, 
 use Rattle.walk.specs.FittingRows.{chunk, onward, answer}
 use Rattle.walk.specs.Inside.{listed-inside}
 use Rattle.walk.proofs.AllChunksLaws.{onward-listed}
-use Rattle.walk.specs.declared.Onward.{Onward}
-use Rattle.walk.specs.declared.Onward.TheVariants as onwards
-use Rattle.listing.specs.Chunks.{Listed, turned_away, part, list_on, list_answer}
+use Rattle.walk.specs.declared.Chunk.{Chunk}
+use Rattle.road.specs.Faults.{Said, value}
+use Rattle.road.specs.Faults as faults
+use Rattle.listing.specs.Chunks.{list_on, list_answer}
 use Rattle.speed_marks.specs.Marks as speeds
 use Rattle.peg_list.specs.Pegs.{first_bad, rows_or24, pegs_on, pegs_answer}
 use Rattle.voardusk.specs.Codes.{mark_for_none, returned_number, answer_number, list_returned_number, list_answer_number, list_next_number, marks_returned_number, marks_answer_number}
@@ -31,13 +32,13 @@ abbrev pub next_said : (number answer : ℕ) → Answer
 next_said zero s = if eqb s mark_for_none then no_station else station s
 next_said (suc k) p = refusal (suc k) p
 
-abbrev pub list_said : (number answer next : ℕ) → Listed
-list_said zero n s = part (record { bytes = n; next = if eqb s mark_for_none then onwards.Done else onwards.From s })
-list_said (suc k) p s = turned_away (suc k) p
+abbrev pub list_said : (number answer next : ℕ) → Said Chunk
+list_said zero n s = value (record { bytes = n; next = if eqb s mark_for_none then None else Some s })
+list_said (suc k) p s = faults.refusal (suc k) p
 
-abbrev pub marks_said : (number answer : ℕ) → speeds.Marked
-marks_said zero set = speeds.marked set
-marks_said (suc k) p = speeds.turned_away (suc k) p
+abbrev pub marks_said : (number answer : ℕ) → Said ℕ
+marks_said zero set = value set
+marks_said (suc k) p = faults.refusal (suc k) p
 
 -- ---- it is the answer
 -- a number in a range from 1 on, or beside it, is 1 or more
@@ -57,21 +58,10 @@ number-above f n p e = go ((refused_iff f n p).0 e)
     go (inl r) = read_above f n p r
     go (inr b) = above (omega arith) (omega arith) (rule_number (limits b.road) b.road b.lowest)
 
-row-refusal : (n p : ℕ) → 1 ≤ n → row_said n p ≡ refusal n p
-row-refusal zero p h = absurd (omega arith)
-row-refusal (suc k) p h = refl
-
-next-refusal : (n p : ℕ) → 1 ≤ n → next_said n p ≡ refusal n p
-next-refusal zero p h = absurd (omega arith)
-next-refusal (suc k) p h = refl
-
-list_refusal : (n p s : ℕ) → 1 ≤ n → list_said n p s ≡ turned_away n p
-list_refusal zero p s h = absurd (omega arith)
-list_refusal (suc k) p s h = refl
-
-marks-refusal : (n p : ℕ) → 1 ≤ n → marks_said n p ≡ speeds.turned_away n p
-marks-refusal zero p h = absurd (omega arith)
-marks-refusal (suc k) p h = refl
+-- from 1 on, what is read of a refusal's numbers is that refusal
+refused_back : {A : Type 0} (said refused : ℕ → ℕ → A) → ((k p : ℕ) → said (suc k) p ≡ refused (suc k) p) → (n p : ℕ) → 1 ≤ n → said n p ≡ refused n p
+refused_back said away back zero p h = absurd (omega arith)
+refused_back said away back (suc k) p h = back k p
 
 -- a station of a road is not what stands for none
 not_mark : (s : ℕ) → s ≤ 100000000 → eqb s mark_for_none ≡ false
@@ -84,10 +74,10 @@ RowBack a = row_said (returned_number a) (answer_number a) ≡ a
 abbrev NextBack : Answer → Type 0
 NextBack a = next_said (returned_number a) (answer_number a) ≡ a
 
-abbrev ListBack : Listed → Type 0
+abbrev ListBack : Said Chunk → Type 0
 ListBack a = list_said (list_returned_number a) (list_answer_number a) (list_next_number a) ≡ a
 
-abbrev MarksBack : speeds.Marked → Type 0
+abbrev MarksBack : Said ℕ → Type 0
 MarksBack a = marks_said (marks_returned_number a) (marks_answer_number a) ≡ a
 
 pub row_read_back : (f : List ℕ) (s room : ℕ) → RowBack (row_answer f s room)
@@ -100,7 +90,7 @@ row_read_back f s room = go (accepted f) refl
     by n false false = refl
 
     go : (g : Got Road) → accepted f ≡ g → RowBack (row_on s room g)
-    go (refused n p) e = row-refusal n p (number-above f n p e)
+    go (refused n p) e = refused_back row_said refusal (λ k p. refl) n p (number-above f n p e)
     go (got r end) e = by (length (line r s)) (ltb room 96) (ltb (total r) s)
 
 pub next_read_back : (f : List ℕ) (s : ℕ) → NextBack (next_answer f s)
@@ -115,26 +105,26 @@ next_read_back f s = go (accepted f) refl
     of G (nothing k) = refl
 
     go : (g : Got Road) → accepted f ≡ g → NextBack (next_on s g)
-    go (refused n p) e = next-refusal n p (number-above f n p e)
+    go (refused n p) e = refused_back next_said refusal (λ k p. refl) n p (number-above f n p e)
     go (got r end) e = of (guaranteed f r end e) (next-least r s)
 
 pub list_read_back : (f : List ℕ) (s room : ℕ) → ListBack (list_answer f s room)
 unfolding list_answer
 list_read_back f s room = go (accepted f) refl
   where
-    of : {r : Road} → Guaranteed r → (o : Onward) → onward (chunk r s room).remaining ≡ o → (n : ℕ) → ListBack (part (record { bytes = n; next = o }))
-    of {r} G (onwards.From t) e n =
+    of : {r : Road} → Guaranteed r → (o : Option ℕ) → onward (chunk r s room).remaining ≡ o → (n : ℕ) → ListBack (value (record { bytes = n; next = o }))
+    of {r} G (Some t) e n =
         let T = G.whole.high in
         let h : t ≤ total r = listed-inside G (onward-listed G s room t e) in
-        ap (λ (b : Bool). part (record { bytes = n; next = if b then onwards.Done else onwards.From t })) (not_mark t (omega arith))
-    of G onwards.Done e n = refl
+        ap (λ (b : Bool). value (record { bytes = n; next = if b then None else Some t })) (not_mark t (omega arith))
+    of G None e n = refl
 
-    by : {r : Road} → Guaranteed r → (short : Bool) → ListBack (if short then turned_away 20 0 else part (answer (chunk r s room)))
+    by : {r : Road} → Guaranteed r → (short : Bool) → ListBack (if short then faults.refusal 20 0 else value (answer (chunk r s room)))
     by G true = refl
     by {r} G false = of G (onward (chunk r s room).remaining) refl (length (chunk r s room).text)
 
     go : (g : Got Road) → accepted f ≡ g → ListBack (list_on s room g)
-    go (refused n p) e = list_refusal n p mark_for_none (number-above f n p e)
+    go (refused n p) e = refused_back (λ k q. list_said k q mark_for_none) faults.refusal (λ k q. refl) n p (number-above f n p e)
     go (got r end) e = by (guaranteed f r end e) (ltb room 96)
 
 pub marks_read_back : (f : List ℕ) → MarksBack (speeds.marks_answer f)
@@ -142,7 +132,7 @@ unfolding speeds.marks_answer
 marks_read_back f = go (read f) refl
   where
     go : (g : Got Road) → read f ≡ g → MarksBack (speeds.marks_on g)
-    go (refused n p) e = marks-refusal n p (read_above f n p e)
+    go (refused n p) e = refused_back marks_said faults.refusal (λ k p. refl) n p (read_above f n p e)
     go (got r end) e = refl
 
 -- the pegs, read as a row is
@@ -156,5 +146,5 @@ pegs_read_back f pegs room = go (accepted f) refl
     by r None false = refl
 
     go : (g : Got Road) → accepted f ≡ g → RowBack (pegs_on pegs room g)
-    go (refused n p) e = row-refusal n p (number-above f n p e)
+    go (refused n p) e = refused_back row_said refusal (λ k p. refl) n p (number-above f n p e)
     go (got r end) e = by r (first_bad (total r) pegs) (ltb room (96 * length pegs))
