@@ -15,11 +15,9 @@ fn one_if(is_day: bool) -> u32
 fn days_below(end: u32) -> u32
     ensures { result ≡ days_below end }
 {
-    let mut count: u32 = 0;
-    let mut number: u32 = 0;
-    while number < end {
-        count = count + one_if(days::is_day(number));
-        number += 1;
+    let mut count = 0;
+    for number in 0..end {
+        count += one_if(days::is_day(number));
     }
     count
 }

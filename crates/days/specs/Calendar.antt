@@ -1,5 +1,5 @@
 -- A number from 19500101 to 20991231 is a day exactly where a Gregorian day is written by it; the years 1950 to 2099 have 54,787 days. Assumes nothing.
-use Rattle.std.specs.Prelude.{◌≡◌, refl, ◌↔◌, Bool, true, false, ◌&&◌, List, [], ◌∷◌, ℕ, zero, suc, ◌+◌, ◌*◌, ◌/◌, ◌%◌, ◌≤◌, ◌<◌, leb, get_or}
+use Rattle.std.specs.Prelude.{◌≡◌, refl, ◌↔◌, Bool, true, false, ◌&&◌, ℕ, zero, suc, ◌+◌, ◌*◌, ◌/◌, ◌%◌, ◌≤◌, ◌<◌, leb, get_or, sum}
 use Rattle.std.proofs.Common.{ap, ◌∙◌, subst, arith, leb→le, leb-true, le-leb}
 use Rattle.std.proofs.Math.Decide.{dec_lt}
 use Rattle.std.proofs.Math.ListN.{get_or-eq_default}
@@ -80,10 +80,6 @@ is_day_iff n = (there, back)
         rw (g, le-leb 19_500_101 n w.low, le-leb n 20_991_231 w.high)
 
 -- ---- how many days the years have
-abbrev pub sum : List ℕ → ℕ
-sum [] = 0
-sum (n ∷ l) = n + sum l
-
 -- the days of so many years from a year on
 abbrev pub days_from : (year count : ℕ) → ℕ
 days_from year zero = 0

@@ -12,10 +12,10 @@ counted n count more b e is m =
 
 pub loop-number-init : goal.loop-number-init
 unfolding days_below
-loop-number-init c = (refl, omega arith, omega arith)
+loop-number-init c = (refl, omega arith)
 
 pub loop-number-preserved : goal.loop-number-preserved
 loop-number-preserved c =
     let l = c.loop-number in
     let more = c.one_if-count.ensures in
-    (counted l.number l.count c.one_if-count.result c.is_day.result l.invariant.0 c.is_day.ensures more.0, omega (arith, l.invariant.1, more.1), omega (arith, c.loop-number-test.true))
+    (counted l.number l.count c.one_if-count.result c.is_day.result l.invariant.0 c.is_day.ensures more.0, omega (arith, l.invariant.1, more.1))
