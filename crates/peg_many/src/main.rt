@@ -3,160 +3,124 @@
 
 #![tactic(auto)]
 
-ghost use Rattle.std.specs.Prelude.{◌<◌, ◌≤◌, length};
-ghost use Rattle.cursors.specs.Places.{RoadReady};
+ghost use Rattle.std.specs.Prelude.{◌≤◌, length};
+ghost use Rattle.laws_of_acceptance.specs.Guaranteed.{Guaranteed};
 
-use acceptance::Outcome;
-use road::{AcceptedRoad, RowAnswer};
-use walk::Onward;
+use accepted_road::AcceptedRoad;
+use road::Refusal;
+use std::{array, io};
 
-// More parts than any list has: the loop over them ends.
-const PARTS: u64 = 1000;
+const PEGS: usize = 2000;
 
 // ---- one call
 
-// Modulo 2^32, as the sums are.
-fn low(n: u64) -> u32 {
-    (n % 4294967296) as u32
-}
-
 // T; 0 where the file is refused.
-fn end_of(file: &[u8]) -> u32 {
-    let accepted = acceptance::accept(file);
-    let road = accepted.road;
-    low(road.total)
-}
-
-// The length of what was written; 0 beside a refusal.
-fn written(answer: RowAnswer) -> u32 {
-    match answer {
-        RowAnswer::Refused(_, _) => 0,
-        RowAnswer::Length(length) => low(length as u64),
+fn end_of(file: &[u8]) -> u64
+    ensures { result ≤ 100000000 }
+{
+    match acceptance::accept(file) {
+        Ok(road) => road.total(),
+        Err(_) => 0,
     }
 }
 
+// The length of what was written; 0 beside a refusal.
+fn written(answer: Result<usize, Refusal>) -> usize {
+    answer.unwrap_or(0)
+}
+
 // The length of a road's list, part by part.
-fn road_length(road: AcceptedRoad, out: &mut [u8]) -> u32
-    requires { RoadReady road }
+fn road_length(road: &AcceptedRoad, out: &mut [u8]) -> u64
+    requires guaranteed { Guaranteed road.now }
+    requires room { 96 ≤ length out.old }
 {
-    let mut sum: u32 = 0;
-    let mut from: u64 = 0;
-    let mut parts: u64 = 0;
-    while parts < PARTS {
-        let part = walk::rows_from(road, from, out);
-        sum = std::num::wrapping_add_u32(sum, low(part.bytes as u64));
-        let next = part.next;
-        let Onward::From(station) = next else {
-            return sum;
-        };
-        from = station;
-        parts += 1;
+    let mut sum: u64 = 0;
+    let mut next = Some(0);
+    while let Some(station) = next {
+        let part = walk::rows_from(road, station, out);
+        sum = sum.wrapping_add(part.bytes as u64);
+        next = part.next;
     }
     sum
 }
 
 // The length of a file's list; 0 where the file is refused.
-fn list_length(file: &[u8], out: &mut [u8]) -> u32 {
-    let accepted = acceptance::accept(file);
-    let road = accepted.road;
-    let outcome = accepted.outcome;
-    match outcome {
-        Outcome::Refused(_, _) => 0,
-        Outcome::Accepted => road_length(road, out),
+fn list_length(file: &[u8], out: &mut [u8]) -> u64
+    requires { 96 ≤ length out.old }
+{
+    match acceptance::accept(file) {
+        Ok(road) => road_length(&road, out),
+        Err(_) => 0,
     }
 }
 
-// One call; i is the peg of a single one.
-fn call(kind: u8, file: &[u8], stations: &[u64; 2000], i: usize, out: &mut [u8]) -> u32
-    requires { i < 2000 }
+// One call; the station is that of a single one.
+fn call(kind: u8, file: &[u8], stations: &[u64; PEGS], station: u64, out: &mut [u8]) -> u64
+    requires { 96 ≤ length out.old }
 {
-    if kind == b'a' {
-        return end_of(file);
+    match kind {
+        b'a' => end_of(file),
+        b'g' => written(pegs::peg_rows(file, stations, out)) as u64,
+        b's' => written(stationing::row(file, station, out)) as u64,
+        _ => list_length(file, out),
     }
-    if kind == b'g' {
-        return written(pegs::peg_rows(file, stations, out));
-    }
-    if kind == b's' {
-        return written(stationing::row(file, stations[i], out));
-    }
-    list_length(file, out)
 }
 
 // ---- many calls
 
-// The lowest bit of a byte, changed.
-fn other(b: u8) -> u8 {
-    if b % 2 == 0 { b + 1 } else { b - 1 }
-}
-
-// The step's first byte is the file's third.
-fn calls(kind: u8, count: usize, file: &mut [u8], stations: &[u64; 2000], out: &mut [u8]) -> u32
-    requires room { 3 ≤ length file.old }
-    requires count_small { count ≤ 1000000000 }
+// The sum of the calls' answers. The step's first byte is the file's third: its lowest bit is changed between calls.
+fn sum_of_calls(
+    kind: u8,
+    count: usize,
+    file: &mut [u8],
+    stations: &[u64; PEGS],
+    out: &mut [u8],
+) -> u64
+    requires step { 3 ≤ length file.old }
+    requires room { 96 ≤ length out.old }
 {
-    let mut sum: u32 = 0;
-    let mut i: usize = 0;
-    while i < count {
-        sum = std::num::wrapping_add_u32(sum, call(kind, file, stations, i % 2000, out));
-        file[2] = other(file[2]);
-        i += 1;
+    let mut sum: u64 = 0;
+    for station in stations.iter().cycle().take(count) {
+        sum = sum.wrapping_add(call(kind, file, stations, *station, out));
+        file[2] ^= 1;
     }
     sum
 }
 
 // Peg i is T × i / 1999, rounded down.
-fn spread(stations: &mut [u64; 2000], end: u32) {
-    let mut i: usize = 0;
-    while i < 2000 {
-        stations[i] = (i as u64) * (end as u64) / 1999;
-        i += 1;
-    }
-}
-
-// The test always holds, and is shorter than its proof.
-fn print_rows(rt: &impl Print, file: &[u8], stations: &[u64; 2000], out: &mut [u8]) {
-    let length = written(pegs::peg_rows(file, stations, out)) as usize;
-    if length <= out.len() {
-        let _ = rt.write_all(&out[..length]);
-    }
-}
-
-fn print_sum(rt: &impl Print, sum: u32) {
-    let _ = println!(rt; "{sum}");
+fn spread(end: u64) -> [u64; PEGS]
+    requires { end ≤ 100000000 }
+{
+    array::from_fn(|i| end * i as u64 / 1999)
 }
 
 // s goes n times over the pegs.
-fn how_often(kind: u8, first: u8, second: u8) -> usize
-    ensures { result ≤ 1000000000 }
-{
-    let n = (first as usize) + 256 * (second as usize);
-    if kind == b's' { 2000 * n } else { n }
+fn how_often(kind: u8, n: u16) -> usize {
+    let n = usize::from(n);
+    if kind == b's' { PEGS * n } else { n }
 }
 
 // The pegs are computed once, before the calls.
-fn print_answer(rt: &impl Print, kind: u8, count: usize, file: &mut [u8])
-    requires { (3 ≤ length file.old) × (count ≤ 1000000000) }
+fn print_answer(rt: &impl Print, kind: u8, n: u16, file: &mut [u8]) -> io::Result<()>
+    requires { 3 ≤ length file.old }
 {
-    let mut stations = [0u64; 2000];
-    let mut out = [0u8; 192000];
-    spread(&mut stations, end_of(file));
+    let stations = spread(end_of(file));
+    let mut out = [0u8; 96 * PEGS];
     if kind == b'p' {
-        print_rows(rt, file, &stations, &mut out);
-    } else {
-        print_sum(rt, calls(kind, count, file, &stations, &mut out));
+        let length = written(pegs::peg_rows(file, &stations, &mut out));
+        return rt.write_all(&out[..length.min(out.len())]);
     }
+    let sum = sum_of_calls(kind, how_often(kind, n), file, &stations, &mut out);
+    println!(rt; "{}", sum & 0xffff_ffff)
 }
 
-fn main(rt: HostRuntime) {
+fn main(rt: HostRuntime) -> io::Result<()> {
     let mut space = [0u8; 8196];
     let length = streams::read_full(&mut rt.stdin(), &mut space);
-    if 6 <= length {
-        let kind = space[0];
-        print_answer(
-            &rt,
-            kind,
-            how_often(kind, space[1], space[2]),
-            &mut space[3..length],
-        );
+    match &mut space[..length] {
+        [kind, low, high, file @ ..] if file.len() >= 3 => {
+            print_answer(&rt, *kind, u16::from_le_bytes([*low, *high]), file)
+        }
+        _ => Ok(()),
     }
 }

@@ -1,8 +1,5 @@
-use Rattle.std.proofs.Common.{◌-◌, ◌≤◌, ◌≡◌, length}
+use Rattle.walk.proofs.ToCome.{to_come}
 use Rattle.peg_many.proofs.road_length.Given as goal
 
-abbrev pub invariant-loop-parts : goal.invariant-loop-parts
-invariant-loop-parts l = (length l.out ≡ length l.initial.out) × (l.parts ≤ 1000)
-
-abbrev pub decreases-loop-parts : goal.decreases-loop-parts
-decreases-loop-parts l = 1000 - l.parts
+abbrev pub decreases-loop-next : goal.decreases-loop-next
+decreases-loop-next l = to_come l.next
