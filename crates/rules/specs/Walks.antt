@@ -11,7 +11,7 @@ use Rattle.std.proofs.lemmas.List.{take-map, get_or-drop}
 use Rattle.laws_of_acceptance.specs.Lists.{element-step}
 use Rattle.road.specs.Base.{count_from, first_from, first_that, sum_of}
 use Rattle.road.specs.File.{Road}
-use Rattle.road.specs.Exact.{blank_element, blank_tangent, blank_crossfall, element_start, total}
+use Rattle.road.specs.Exact.{element_of, blank_element, blank_tangent, blank_crossfall, element_start, total}
 use Rattle.road.specs.Rules.{element_earlier, element_before, element_among, tangent_among, point_among}
 use Rattle.road.specs.declared.Element.{Element}
 use Rattle.road.specs.declared.Tangent.{Tangent}
@@ -30,14 +30,14 @@ items_at item n = map item (count_from 0 n)
 -- ---- what the iterators have left
 
 -- the next n elements with those beside them, where the elements before them end at `sum`
-unfoldable pub elements_from : (n count place sum : ℕ) (earlier before : Element) → List Element → List ElementAmong
-elements_from zero count place sum earlier before es = []
-elements_from (suc n) count place sum earlier before es =
-    record { place = place; count = count; end = sum + (get_or es 0 blank_element).length; earlier = earlier; before = before; element = get_or es 0 blank_element; after = get_or es 1 blank_element }
-    ∷ elements_from n count (place + 1) (sum + (get_or es 0 blank_element).length) before (get_or es 0 blank_element) (drop 1 es)
+unfoldable pub elements_from : (n count place sum : ℕ) (earlier before e : Element) (later : List Element) → List ElementAmong
+elements_from zero count place sum earlier before e later = []
+elements_from (suc n) count place sum earlier before e later =
+    record { place = place; count = count; end = sum + e.length; earlier = earlier; before = before; element = e; after = get_or later 0 blank_element }
+    ∷ elements_from n count (place + 1) (sum + e.length) before e (get_or later 0 blank_element) (drop 1 later)
 
 abbrev pub elements_left : Elements → List ElementAmong
-elements_left w = elements_from (w.count + 1 - w.place) w.count w.place w.end w.earlier w.before w.rest.now
+elements_left w = elements_from (w.count + 1 - w.place) w.count w.place w.end w.earlier w.before w.element w.later.now
 
 -- each item between the one before it and the one after it
 unfoldable pub besides : {A : Type 0} → (blank before : A) → List A → List (A × A × A)
@@ -85,23 +85,20 @@ one-behind xs zero = refl
 one-behind [] (suc i) = refl
 one-behind (x ∷ xs) (suc i) = one-behind xs i
 
--- its first item, and the one after it
-module _ {A : Type 0} (xs : List A) (i : ℕ) (d : A) where
-  first-behind : get_or (drop i xs) 0 d ≡ get_or xs i d
-  first-behind = get_or-drop i xs 0 d ∙ ap (λ (k : ℕ). get_or xs k d) (omega arith)
-
-  second-behind : get_or (drop i xs) 1 d ≡ get_or xs (suc i) d
-  second-behind = get_or-drop i xs 1 d ∙ ap (λ (k : ℕ). get_or xs k d) (omega arith)
+-- its first item
+first-behind : {A : Type 0} (xs : List A) (i : ℕ) (d : A) → get_or (drop i xs) 0 d ≡ get_or xs i d
+first-behind xs i d = get_or-drop i xs 0 d ∙ ap (λ (k : ℕ). get_or xs k d) (omega arith)
 
 module _ (r : Road) where
-  elements-from : (n i : ℕ) → elements_from n (length r.plan) i (element_start r i) (element_earlier r i) (element_before r i) (drop i r.plan) ≡ map (element_among r) (count_from i n)
+  elements-from : (n i : ℕ) → elements_from n (length r.plan) i (element_start r i) (element_earlier r i) (element_before r i) (element_of r i) (drop (suc i) r.plan) ≡ map (element_among r) (count_from i n)
   unfolding elements_from count_from
   elements-from zero i = refl
-  elements-from (suc n) i = rw (first-behind r.plan i blank_element, second-behind r.plan i blank_element, one-behind r.plan i, add-one i, ← element-step r i) (ap (λ (l : List ElementAmong). element_among r i ∷ l) (elements-from n (suc i)))
+  elements-from (suc n) i = rw (first-behind r.plan (suc i) blank_element, one-behind r.plan (suc i), add-one i, ← element-step r i) (ap (λ (l : List ElementAmong). element_among r i ∷ l) (elements-from n (suc i)))
 
-  pub elements-among : (es : List Element) → es ≡ r.plan → {n : ℕ} → n ≡ length es + 1 → elements_from n (length es) 0 0 blank_element blank_element es ≡ items_at (element_among r) (length r.plan + 1)
+  pub elements-among : (es : List Element) → es ≡ r.plan → {n : ℕ} {e : Element} {later : List Element} → n ≡ length es + 1 → e ≡ get_or es 0 blank_element → later ≡ drop 1 es
+      → elements_from n (length es) 0 0 blank_element blank_element e later ≡ items_at (element_among r) (length r.plan + 1)
   unfolding element_start sum_of
-  elements-among es e f = rw (f, e) (elements-from (length r.plan + 1) 0)
+  elements-among es s m first rest = rw (m, first, rest, s) (elements-from (length r.plan + 1) 0)
 
 -- ---- each item between those beside it
 

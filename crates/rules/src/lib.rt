@@ -102,7 +102,8 @@ impl<'a> Judging<'a> {
         }
     }
 
-    // 5, 7, 23, 8, 10, 11 and 12
+    // 5, 7, 23, 8, 10, 11 and 12; within `judge` its loop has too few registers
+    #[inline(never)]
     fn first_element(&self, rule: ElementRule) -> Option<usize>
         ensures { result ≡ first_broken (ruled.Element rule) self.now.limits.now self.now.alignment.now }
     {

@@ -1,6 +1,6 @@
 // The items of a list in turn, each with those beside it; past either end of a list stands the blank item.
 
-ghost use Rattle.std.specs.Prelude.{◌≡◌, ◌≤◌, ◌<◌, ◌+◌, ◌*◌, length, slice_index_or};
+ghost use Rattle.std.specs.Prelude.{◌≡◌, ◌≤◌, ◌<◌, ◌+◌, ◌*◌, length, drop, slice_index_or};
 
 use road::{Alignment, Element, ElementAmong};
 
@@ -11,15 +11,27 @@ pub fn item_or<T: Copy>(items: &[T], i: usize, blank: T) -> T
     items.get(i).copied().unwrap_or(blank)
 }
 
+// The first item of a list, or the blank one, and the others.
+fn split_or<T: Copy>(items: &[T], blank: T) -> (T, &[T])
+    ensures first { result.0 ≡ slice_index_or items.entry.now 0 blank }
+    ensures later { result.1.now ≡ drop 1 items.entry.now }
+{
+    match items {
+        [first, later @ ..] => (*first, later),
+        [] => (blank, items),
+    }
+}
+
 // The elements of a plan, each with the two before it and the one after it; behind the last one stands the blank one.
 #[derive(Clone, Copy)]
 pub struct Elements<'a> {
-    rest: &'a [Element],
     place: usize,
     count: usize,
     end: u64,
     earlier: Element,
     before: Element,
+    element: Element,
+    later: &'a [Element],
     ghost few: { count ≤ 200 },
     ghost small: { end ≤ 4294967295 * place },
 }
@@ -32,13 +44,15 @@ impl<'a> Elements<'a> {
         ensures { elements_left result ≡ items_at (element_among a.entry.now) (length a.entry.now.plan + 1) }
     {
         let plan = a.elements();
+        let (element, later) = split_or(plan, Element::BLANK);
         Elements {
-            rest: plan,
             place: 0,
             count: plan.len(),
             end: 0,
             earlier: Element::BLANK,
             before: Element::BLANK,
+            element,
+            later,
         }
     }
 }
@@ -58,24 +72,22 @@ impl Iterator for Elements<'_> {
         if self.count < self.place {
             return None;
         }
-        let element = item_or(self.rest, 0, Element::BLANK);
-        let after = item_or(self.rest, 1, Element::BLANK);
+        let (after, later) = split_or(self.later, Element::BLANK);
         let among = ElementAmong {
             place: self.place,
             count: self.count,
-            end: self.end + element.length as u64,
+            end: self.end + self.element.length as u64,
             earlier: self.earlier,
             before: self.before,
-            element,
+            element: self.element,
             after,
         };
-        if !self.rest.is_empty() {
-            self.rest = &self.rest[1..];
-        }
         self.place += 1;
         self.end = among.end;
         self.earlier = self.before;
-        self.before = element;
+        self.before = self.element;
+        self.element = after;
+        self.later = later;
         Some(among)
     }
 }
