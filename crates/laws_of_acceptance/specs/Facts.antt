@@ -8,8 +8,8 @@ use Rattle.road.specs.Exact.{blank_tangent, tangent_of, point_of, element_start,
 use Rattle.laws_of_acceptance.specs.Lists.{element-step, tangent-step}
 use Rattle.road.specs.declared.Tangent.{Tangent}
 use Rattle.laws_of_search.specs.Last.{Rising, rises_to, Begun, begun}
-use Rattle.laws_of_acceptance.specs.PointOrder.{PointOrder}
-use Rattle.laws_of_acceptance.specs.PointOrder as ordered
+use Rattle.laws_of_acceptance.specs.PointsInOrder.{PointOrder}
+use Rattle.laws_of_acceptance.specs.PointsInOrder as ordered
 
 -- ---- where tangents and elements begin
 rise-append : (l : List Tangent) (t : Tangent) → rise (l ++ (t ∷ [])) ≡ rise l +ℤ t.grade *ℤ pos t.length

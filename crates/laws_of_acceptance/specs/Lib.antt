@@ -2,6 +2,7 @@ pub mod Judging
 pub mod PlanOrder
 pub mod OfKind
 pub mod Kinds
+pub mod PointsInOrder
 pub mod PointOrder
 pub mod Ranged
 pub mod Lists

@@ -1,24 +1,19 @@
--- Rule 16: point 0 is at 0, each is beyond its forerunner, the last is at T; so each station has its pair of points.
-use Rattle.std.specs.Prelude.{◌≡◌, not, ℕ, suc, ◌-◌, ◌<◌, length, leb, eqb}
+-- Rule 16: point 0 is at 0, each is beyond its forerunner, the last is at T.
+use Rattle.std.specs.Prelude.{◌≡◌, not, suc, ◌<◌, length, leb, eqb}
 use Rattle.std.proofs.Common.{ap, arith, eqb-true, eq-eqb, leb-false}
 use Rattle.std.proofs.Math.Decide.{dec_lt}
 use Rattle.std.proofs.lemmas.Bool.{not-false, or_parts}
 use Rattle.std.proofs.Math.ListN.{get_or-eq_default}
 use Rattle.road.specs.File.{Road}
 use Rattle.road.specs.declared.Limits.{Limits}
-use Rattle.road.specs.Exact.{blank_crossfall, point_of, point_at, total}
+use Rattle.road.specs.Exact.{blank_crossfall, point_of, total}
 use Rattle.road.specs.Rules.{point_before, misplaced, not_beyond}
 use Rattle.laws_of_acceptance.specs.Judging.{Keeps}
-use Rattle.laws_of_search.specs.Last.{Rising, Begun, begun}
+use Rattle.laws_of_acceptance.specs.PointsInOrder.{PointOrder}
 use Rattle.laws_of_lists.specs.Tests.{and_no_then}
 use Rattle.road.specs.declared.Crossfall.{Crossfall}
 use Rattle.road.specs.declared.Rule.TheVariants as rule
 use Rattle.road.specs.declared.PointRule.TheVariants as point
-
-pub record PointOrder (r : Road) : Type 0 where
-  pub first : (point_of r 0).station ≡ 0
-  pub ascend : (i : ℕ) → suc i < length r.crossfalls → (point_of r i).station < (point_of r (suc i)).station
-  pub last : (i : ℕ) → suc i ≡ length r.crossfalls → (point_of r i).station ≡ total r
 
 pub point-order : (l : Limits) (r : Road) → Keeps (rule.Point point.MisplacedPoint) l r → PointOrder r
 unfolding misplaced
@@ -31,13 +26,3 @@ point-order l r kept = record {
     at_0 : Dec (0 < length r.crossfalls) → (point_of r 0).station ≡ 0
     at_0 (yes h) = eqb-true (point_of r 0).station 0 (not-false (eqb (point_of r 0).station 0) (or_parts (not (eqb (point_of r 0).station 0)) _ (kept 0 h)).0)
     at_0 (no n) = ap (λ (p : Crossfall). p.station) (get_or-eq_default r.crossfalls blank_crossfall (omega arith))
-
--- the stations of the points, up to the last
-pub points-rise : {r : Road} → PointOrder r → Rising (λ i. (point_of r i).station) (length r.crossfalls - 1)
-unfolding Rising
-points-rise P i h = let l = P.ascend i (omega arith) in omega arith
-
--- the pair of points of a station
-pub pair-at : {r : Road} → PointOrder r → (s : ℕ) → 0 < length r.crossfalls - 1 → Begun (λ i. (point_of r i).station) (length r.crossfalls - 1) s (point_at r s)
-unfolding point_at
-pair-at {r} P s h = let z = P.first in begun (λ i. (point_of r i).station) (length r.crossfalls - 1) s h (omega arith)

@@ -7,7 +7,7 @@ use Rattle.integers.specs.Values.{other_way, ◌then◌}
 use Rattle.road.specs.File.{Road}
 use Rattle.road.specs.Exact.{Side, point_of, point_at, crossfall_of, crossfall_by, crossfall, from◌to◌}
 use Rattle.laws_of_acceptance.specs.Facts.{Facts, order}
-use Rattle.laws_of_acceptance.specs.PointOrder.{PointOrder}
+use Rattle.laws_of_acceptance.specs.PointsInOrder.{PointOrder}
 use Rattle.laws_of_pieces.specs.Joints.{none_from, ahead_by}
 use Rattle.laws_of_search.specs.Items.{EndToEnd, value-at}
 

@@ -25,7 +25,7 @@ use Rattle.road.specs.declared.Crossfall.{Crossfall}
 use Rattle.std.proofs.Math.Bool.{or-true}
 use Rattle.laws_of_acceptance.specs.Positive.{Accepted, points_ordered}
 use Rattle.laws_of_acceptance.specs.Facts.{elements_rise}
-use Rattle.laws_of_acceptance.specs.PointOrder.{PointOrder, points-rise, pair-at}
+use Rattle.laws_of_acceptance.specs.PointsInOrder.{PointOrder, points-rise, pair-at}
 use Rattle.laws_of_acceptance.specs.Ranges.{element_in}
 use Rattle.laws_of_search.specs.Last.{rises_to, Begun, begun-before}
 use Rattle.laws_of_pieces.specs.Crossfalls.{by_positive, crossfall_by_lem}

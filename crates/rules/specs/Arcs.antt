@@ -19,7 +19,7 @@ use Rattle.road.specs.declared.Element.{Element}
 use Rattle.road.specs.declared.Crossfall.{Crossfall}
 use Rattle.superelevation.specs.Shown.{shown_by}
 use Rattle.laws_of_search.specs.Last.{rises_to}
-use Rattle.laws_of_acceptance.specs.PointOrder.{PointOrder, points-rise, pair-at}
+use Rattle.laws_of_acceptance.specs.PointsInOrder.{PointOrder, points-rise, pair-at}
 use Rattle.laws_of_acceptance.specs.Lists.{element-step}
 use Rattle.laws_of_lists.specs.Tests.{true_false, and_yes, or_no, or_yes, or_true}
 

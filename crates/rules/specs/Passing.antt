@@ -10,7 +10,7 @@ use Rattle.laws_of_acceptance.specs.Lists.{element-step, Sums, sums_start, sums_
 use Rattle.road.specs.declared.Element.{Element}
 use Rattle.road.specs.declared.Crossfall.{Crossfall}
 use Rattle.superelevation.specs.Shown.{shown_by}
-use Rattle.laws_of_acceptance.specs.PointOrder.{PointOrder}
+use Rattle.laws_of_acceptance.specs.PointsInOrder.{PointOrder}
 use Rattle.rules.specs.Search.{Passed, start, found, on, nothing}
 use Rattle.rules.specs.Arcs.{Merged, merged-start, next-pair, next-element, passed, fails, pair_test, arc-test}
 

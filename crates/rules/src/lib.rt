@@ -9,7 +9,7 @@ ghost use Rattle.std.specs.Iterator.{AlwaysYields, IsFinite};
 ghost use Rattle.road.specs.Base.{first_that};
 ghost use Rattle.road.specs.Exact.{tangent_start, total};
 ghost use Rattle.laws_of_acceptance.specs.PlanOrder.{PlanOrder};
-ghost use Rattle.laws_of_acceptance.specs.PointOrder.{PointOrder};
+ghost use Rattle.laws_of_acceptance.specs.PointsInOrder.{PointOrder};
 ghost use Rattle.road.specs.Rules.{first_broken, judged};
 ghost use Rattle.laws_of_acceptance.specs.Judging.{Tried};
 ghost use Rattle.road.specs.declared.Rule.TheVariants as ruled;

@@ -3,7 +3,8 @@ use Rattle.std.proofs.Common.{◌≡◌, subst}
 use Rattle.road.specs.declared.Limits.{Limits}
 use Rattle.road.specs.File.{Road}
 use Rattle.laws_of_acceptance.specs.PlanOrder.{PlanOrder, plan-order}
-use Rattle.laws_of_acceptance.specs.PointOrder.{PointOrder, point-order}
+use Rattle.laws_of_acceptance.specs.PointsInOrder.{PointOrder}
+use Rattle.laws_of_acceptance.specs.PointOrder.{point-order}
 use Rattle.laws_of_acceptance.specs.Judging.{Tried, kept-earlier, straight_follows, superelevation_follows}
 use Rattle.road.specs.declared.Rule.{Rule}
 use Rattle.road.specs.declared.Rule.TheVariants as rule
