@@ -2,24 +2,14 @@
 
 #![tactic(auto)]
 
-ghost use Rattle.std.specs.Prelude.{◌≡◌, ◌≤◌};
-ghost use Rattle.days.specs.Calendar.{one, days_below};
-
-fn one_if(is_day: bool) -> u32
-    ensures { (result ≡ one is_day) × (result ≤ 1) }
-{
-    if is_day { 1 } else { 0 }
-}
+ghost use Rattle.std.specs.Prelude.{◌≡◌};
+ghost use Rattle.days.specs.Calendar.{days_below};
 
 // How many numbers below an end are days.
 fn days_below(end: u32) -> u32
     ensures { result ≡ days_below end }
 {
-    let mut count = 0;
-    for number in 0..end {
-        count += one_if(days::is_day(number));
-    }
-    count
+    (0..end).filter(|number| days::is_day(*number)).count() as u32
 }
 
 fn main(rt: HostRuntime) {

@@ -12,7 +12,7 @@ fn is_leap_year(year: u32) -> bool
     (year % 4 == 0 && year % 100 != 0) || year % 400 == 0
 }
 
-// How many days a month has; 0 where there is no such month.
+// How many days a month has: where there is no such month, none, so its 0 is a number of days like any other.
 #[tactic(auto, unfolding(crate::specs::Day::month_days))]
 fn month_days(year: u32, month: u32) -> u32
     ensures { result ≡ month_days year month }

@@ -1,19 +1,19 @@
-// Runs the leaves on document 01's worked values; the expected output stands in the file `stdout`.
+// Runs the leaves on worked values; the expected output stands in the file `stdout`.
 
 #![tactic(auto)]
 
+ghost use Rattle.std.specs.Prelude.{◌<◌, length};
+
+use decimal::Decimal;
 use reader::Reader;
 
 // A number on a line of its own.
-fn show(rt: &impl Print, v: i64) {
+fn show<N: Decimal>(rt: &impl Print, v: N)
+    requires { length (N.text v) < 32 }
+{
     let mut line = [0u8; 32];
     let end = decimal::put_field(&mut line, v, b'\n');
     let _ = rt.write_all(&line[..end]);
-}
-
-// A size on a line of its own.
-fn show_size(rt: &impl Print, n: u64) {
-    let _ = println!(rt; "{n}");
 }
 
 // The number at the front of some bytes, and the place after it, or that there is none.
@@ -39,6 +39,7 @@ fn numbers(rt: &impl Print) {
 }
 
 // Signed values: −25,000 is written as 49,999.
+#[tactic(auto, using(crate::proofs::Short::short))]
 fn signed_values(rt: &impl Print) {
     show(rt, i64::from(file_numbers::signed_of(49999)));
     show(rt, i64::from(file_numbers::written_as(-25000)));
@@ -50,6 +51,7 @@ fn signed_values(rt: &impl Print) {
 }
 
 // "Truncating negative drops towards zero: −68.75 becomes −68"; exact halves go away from zero.
+#[tactic(auto, using(crate::proofs::Short::short))]
 fn roundings(rt: &impl Print) {
     show(rt, integers::round_div(-6875, 100));
     show(rt, integers::round_div(-715, 10));
@@ -57,10 +59,11 @@ fn roundings(rt: &impl Print) {
 }
 
 // The least and the greatest number of 64 bits, and of those that are rounded.
+#[tactic(auto, using(crate::proofs::Short::short))]
 fn widest(rt: &impl Print) {
-    show(rt, -9223372036854775808);
-    show(rt, 9223372036854775807);
-    show(rt, 0);
+    show(rt, i64::MIN);
+    show(rt, i64::MAX);
+    show(rt, 0_i64);
     show(rt, integers::round_div(-1000000000000000000, 1));
     show(
         rt,
@@ -77,16 +80,17 @@ fn widest(rt: &impl Print) {
 }
 
 // Over a divisor that i64 does not hold: an exact half and just below it, and two rests that together u64 does not hold.
+#[tactic(auto, using(crate::proofs::Short::short))]
 fn sums(rt: &impl Print) {
-    show_size(
+    show(
         rt,
         integers::nearest_sum(1000, 4990000000000000000, 0, 9980000000000000000),
     );
-    show_size(
+    show(
         rt,
         integers::nearest_sum(1000, 4989999999999999999, 0, 9980000000000000000),
     );
-    show_size(
+    show(
         rt,
         integers::nearest_sum(
             1000,

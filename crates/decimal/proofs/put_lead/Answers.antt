@@ -1,48 +1,33 @@
--- One store, a pair, one store and a pair, or four digits.
-use Rattle.std.proofs.Common.{◌≡◌, sym, ap, ◌∙◌, List, ◌∷◌, ℕ, ◌+◌, ◌/◌, ◌%◌, ◌≤◌, ◌<◌, length, length-set, arith, rules}
-use Rattle.decimal.specs.Decimal.{digits}
-use Rattle.decimal.specs.Digits.{last_digits, digits-one, digits_exact, length_exact, digits-full, last_rest}
-use Rattle.decimal.specs.Written.{wrote-first, wrote-behind}
+-- One digit, two, three or four: they are all that the number has.
+use Rattle.std.proofs.Common.{ℕ, ◌+◌, ◌*◌, ◌≤◌, ◌<◌, arith}
+use Rattle.decimal.specs.Digits.{digits-full}
+use Rattle.decimal.proofs.Parts.{digits-last-one, lead-room, lead-written}
 use Rattle.decimal.proofs.put_lead.Goals as goal
 
--- three digits: the first, and the pair of what remains
-three : (n : ℕ) → 100 ≤ n → n < 1000 → digits n ≡ (48 + n / 100) ∷ last_digits 2 (n % 100)
-three n h l = digits_exact 2 n h (omega arith) ∙ ap (λ (x : List ℕ). (48 + n / 100) ∷ x) (sym (last_rest 2 n))
+-- the bytes behind the digits are fewer than the buffer's
+rest-fits : (k n : ℕ) {l : ℕ} → n + k ≤ l → l * 1 < 9223372036854775808 → k * 1 < 9223372036854775808
+rest-fits k n room h = omega arith
 
-pub bounds-buf-0 : goal.bounds-buf-0
-bounds-buf-0 c = let n = c.args.n in omega (arith, ap length (digits-one n (omega arith)), c.requires.room)
+pub put_both-requires : goal.put_both-requires
+put_both-requires g c = let n = c.args.n in (omega arith, (rest-fits g.row.REST _ c.requires.room c.well_formed.0.1, lead-room 1 n c.args.rest (digits-last-one n (omega arith)) g.row.REST c.requires.room))
 
 pub returns-then-n-lt10 : goal.returns-then-n-lt10
-returns-then-n-lt10 c = let n = c.args.n in let e = digits-one n (omega arith) in rw e (wrote-first c.args.buf.now 0 (48 + n) (omega (arith, ap length e, c.requires.room)))
+returns-then-n-lt10 g c = let n = c.args.n in lead-written 1 n c.args.rest (digits-last-one n (omega arith)) c.one.ensures c.put_both.ensures
 
-pub put_pair-requires-clause-room : goal.put_pair-requires-clause-room
-put_pair-requires-clause-room c = omega (arith, length_exact 1 c.args.n (omega arith) (omega arith), c.requires.room)
+pub put_both-requires-then-n-lt100 : goal.put_both-requires-then-n-lt100
+put_both-requires-then-n-lt100 g c = let n = c.args.n in (omega arith, (rest-fits g.row.REST _ c.requires.room c.well_formed.0.1, lead-room 2 n c.args.rest (digits-full 1 n (omega arith) (omega arith)) g.row.REST c.requires.room))
 
 pub returns-then-n-lt100 : goal.returns-then-n-lt100
-returns-then-n-lt100 c = rw (digits-full 1 c.args.n (omega arith) (omega arith)) c.put_pair.ensures
+returns-then-n-lt100 g c = let n = c.args.n in lead-written 2 n c.args.rest (digits-full 1 n (omega arith) (omega arith)) c.pair.ensures c.put_both-then-n-lt100.ensures
 
-pub bounds-buf-0-then-n-lt1000 : goal.bounds-buf-0-then-n-lt1000
-bounds-buf-0-then-n-lt1000 c = let l = length_exact 2 c.args.n (omega arith) (omega arith) in search rules
-
-pub slice_bounds-put_pair-count : goal.slice_bounds-put_pair-count
-slice_bounds-put_pair-count c = let l = length_exact 2 c.args.n (omega arith) (omega arith) in search rules
-
-pub slice_bounds-put_pair-start : goal.slice_bounds-put_pair-start
-slice_bounds-put_pair-start c = let l = length_exact 2 c.args.n (omega arith) (omega arith) in search rules
-
-pub put_pair-requires-then-n-lt1000-clause-room : goal.put_pair-requires-then-n-lt1000-clause-room
-put_pair-requires-then-n-lt1000-clause-room c = let l = length_exact 2 c.args.n (omega arith) (omega arith) in search rules
+pub put_both-requires-then-n-lt1000 : goal.put_both-requires-then-n-lt1000
+put_both-requires-then-n-lt1000 g c = let n = c.args.n in (omega arith, (rest-fits g.row.REST _ c.requires.room c.well_formed.0.1, lead-room 3 n c.args.rest (digits-full 2 n (omega arith) (omega arith)) g.row.REST c.requires.room))
 
 pub returns-then-n-lt1000 : goal.returns-then-n-lt1000
-returns-then-n-lt1000 c =
-    let n = c.args.n in
-    let b = c.args.buf.now in
-    let l = length_exact 2 n (omega arith) (omega arith) in
-    let room : 0 < length b = omega (arith, c.requires.room) in
-    rw (three n (omega arith) (omega arith)) (wrote-behind (simp length-set (omega arith)) c.put_pair-then-n-lt1000.ensures (wrote-first b 0 (48 + n / 100) room) (omega arith))
+returns-then-n-lt1000 g c = let n = c.args.n in lead-written 3 n c.args.rest (digits-full 2 n (omega arith) (omega arith)) c.three.ensures c.put_both-then-n-lt1000.ensures
 
-pub put_four-requires-clause-room : goal.put_four-requires-clause-room
-put_four-requires-clause-room c = omega (arith, length_exact 3 c.args.n (omega arith) (omega arith), c.requires.room)
+pub put_both-requires-2 : goal.put_both-requires-2
+put_both-requires-2 g c = let n = c.args.n in (omega arith, (rest-fits g.row.REST _ c.requires.room c.well_formed.0.1, lead-room 4 n c.args.rest (digits-full 3 n (omega arith) (omega arith)) g.row.REST c.requires.room))
 
 pub returns : goal.returns
-returns c = rw (digits-full 3 c.args.n (omega arith) (omega arith)) c.put_four.ensures
+returns g c = let n = c.args.n in lead-written 4 n c.args.rest (digits-full 3 n (omega arith) (omega arith)) c.four.ensures c.put_both-2.ensures

@@ -2,7 +2,7 @@
 use Rattle.std.proofs.Common.{refl, ◌<◌, ap, length, length-set, arith, rules}
 use Rattle.decimal.specs.Written.{wrote-first, wrote-behind}
 use Rattle.decimal.proofs.Sign.{decimal-below, decimal-from}
-use Rattle.decimal.proofs.I64Number.put.Goals as goal
+use Rattle.decimal.proofs.I64Decimal.put.Goals as goal
 
 pub bounds-buf-0 : goal.bounds-buf-0
 bounds-buf-0 c = omega (arith, c.requires, ap length (decimal-below c.ranges.self refl c.if-self-lt0.true))

@@ -1,0 +1,6 @@
+-- Two bytes of the table.
+use Rattle.decimal.specs.Pairs.{pair-at}
+use Rattle.decimal.proofs.pair.Goals as goal
+
+pub returns : goal.returns
+returns c = pair-at c.args.n c.requires
