@@ -1,4 +1,4 @@
-// An accepted road: its alignment, and what every caller asks of it, the lane width and T.
+// An accepted road: its alignment and, beside it, its lane width and T.
 
 #![tactic(auto)]
 
@@ -11,7 +11,8 @@ use road::Alignment;
 use std::marker::Model;
 
 // Contracts see the road; that it keeps the rules and the limits is a fact of every value.
-#[derive(Drop)]
+// Each method ensures `Guaranteed`, since callers in other crates know an invariant only by what a method ensures.
+#[derive(Clone, Drop)]
 pub struct AcceptedRoad {
     alignment: Alignment,
     lane: u32,
@@ -32,16 +33,17 @@ impl Model for AcceptedRoad {
 
 impl AcceptedRoad {
     // The road of an alignment that keeps the rules and the limits, with its lane width and its T.
-    pub fn new(alignment: Alignment, lane: u32, whole: u64) -> Self
-        requires guaranteed { Guaranteed alignment }
-        requires lane_is { lane ≡ lane_width alignment }
-        requires total_is { whole ≡ total alignment }
+    #[tactic(auto, unfolding(road::specs::Lane::lane_width, road::specs::Limits::limits))]
+    pub fn new(alignment: Alignment) -> Self
+        requires { Guaranteed alignment }
         ensures { result ≡ alignment }
     {
+        let lane = limits::limits_of(alignment.head()).lane;
+        let total = alignment.total();
         AcceptedRoad {
             alignment,
             lane,
-            total: whole,
+            total,
         }
     }
 
@@ -68,7 +70,7 @@ impl AcceptedRoad {
         self.lane
     }
 
-    // T.
+    // The plan length T.
     pub fn total(&self) -> u64
         ensures total { result ≡ total self.now }
         ensures guaranteed { Guaranteed self.now }

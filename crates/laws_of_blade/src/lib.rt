@@ -1,3 +1,3 @@
-// The blade between two neighbouring rows: demand 3 of every run of the plain machine.
+// The blade between two neighbouring rows of any run of calls.
 
 #![tactic(auto)]

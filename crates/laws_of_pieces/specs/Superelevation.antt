@@ -1,11 +1,11 @@
 -- Document 01, refusal 19: its test holds exactly where the exact crossfall is constant on the whole arc, ends included, and right there.
-use Rattle.std.specs.Prelude.{◌≡◌, refl, Bool, true, false, not, ◌&&◌, ◌||◌, ◌⊎◌, ◌↔◌, [], ◌∷◌, length, T, ltb, leb, eqb, ℤ, nat_abs, neg_ℤ, ◌+ℤ◌, ◌-ℤ◌, ◌*ℤ◌, ◌<ℤ◌, Option, None, Some}
-use Rattle.std.proofs.Common.{sym, ap₂, ◌∙◌, subst, inl, inr, ltb-true, lt-ltb, leb-true, le-leb, eqb-true, eq-eqb, ne_eqb}
+use Rattle.std.specs.Prelude.{◌≡◌, refl, Bool, true, false, not, ◌&&◌, ◌||◌, ◌⊎◌, ◌↔◌, [], ◌∷◌, length, T, ltb, leb, ℤ, nat_abs, neg_ℤ, ◌+ℤ◌, ◌-ℤ◌, ◌*ℤ◌, ◌<ℤ◌, IsSomeAnd, Option, None, Some}
+use Rattle.std.proofs.Common.{sym, ap₂, ◌∙◌, subst, inl, inr, ltb-true, lt-ltb, leb-true, le-leb, eqb-true, eq-eqb}
 use Rattle.std.proofs.Math.Path.{ap}
 use Prim.Native.Nat.{ℕ, zero, suc, ◌+◌, ◌*◌, ◌-◌, ◌≤◌, ◌<◌, min, max}
 use native.Mathlib.Omega.{arith}
 use Rattle.std.proofs.Math.Decide.{dec_le}
-use Rattle.std.proofs.lemmas.Bool.{eqb-false, not-true, not-false, and_from, and_parts, or_cases, or_parts}
+use Rattle.std.proofs.lemmas.Bool.{not-false, and_from, and_parts, or_cases, or_parts}
 use Rattle.std.proofs.Math.IntN.{pos}
 use Rattle.std.specs.Int.Signed.{lt_z}
 use Rattle.integers.specs.Bridge.{int, ◌⊖◌, eq!, abs?}
@@ -14,7 +14,8 @@ use Rattle.integers.specs.Fraction.{whole, ◌≈ᶠ◌}
 use Rattle.integers.specs.Values.{cancel, same-value, other_way, ◌then◌}
 use Rattle.road.specs.Base.{first_that}
 use Rattle.road.specs.File.{Road}
-use Rattle.road.specs.Limits.{limits, no_rule, ruled}
+use Rattle.std.specs.Option.{option_map_or}
+use Rattle.road.specs.Limits.{limits}
 use Rattle.road.specs.declared.Limits.{Limits}
 use Rattle.road.specs.Exact.{element_of, is_arc, element_start, total, point_of, point_at, Side, left, right, crossfall_of, crossfall_by, crossfall, from◌to◌}
 use Rattle.road.specs.Rules.{eq_z, changes, meets, changes_between, changes_on, inner, superelevated, crowned, allowed, wrong_superelevation}
@@ -204,8 +205,7 @@ pub record Superelevated (radius : ℤ) (p : Crossfall) : Type 0 where
 pub record Crowned (l : Limits) (radius : ℤ) (p : Crossfall) : Type 0 where
   pub left_side : p.left ≡ neg_ℤ (pos l.crown)
   pub right_side : p.right ≡ neg_ℤ (pos l.crown)
-  pub allowed : l.radius_both ≡ no_rule → ⊥
-  pub wide : l.radius_both ≤ nat_abs radius
+  pub wide : IsSomeAnd l.radius_both (λ least. least ≤ nat_abs radius)
 
 negative : (a : ℤ) → (lt_z a (pos 0) ≡ true) ↔ (a <ℤ pos 0)
 negative a = (λ e. record { lt = subst T (sym e) tt }, λ h. go (lt_z a (pos 0)) h.lt)
@@ -226,6 +226,10 @@ superelevated_iff radius p = (there, λ h. and_from x y (eq_z-same _ _ h.opposit
     there : superelevated radius p ≡ true → Superelevated radius p
     there e = record { opposite = eq_z_true _ _ (and_parts x y e).0; inward = (negative _).0 (and_parts x y e).1 }
 
+wide_iff : (limit : Option ℕ) (n : ℕ) → (option_map_or (λ least. leb least n) limit false ≡ true) ↔ IsSomeAnd limit (λ least. least ≤ n)
+wide_iff None n = (λ e. absurd cc, λ h. absurd h)
+wide_iff (Some least) n = (leb-true least n, le-leb least n)
+
 crowned_iff : (l : Limits) (radius : ℤ) (p : Crossfall) → (crowned l radius p ≡ true) ↔ Crowned l radius p
 crowned_iff l radius p = (there, back)
   where
@@ -236,25 +240,19 @@ crowned_iff l radius p = (there, back)
     y = eq_z p.right (neg_ℤ (pos l.crown))
 
     z : Bool
-    z = ruled l.radius_both
-
-    w : Bool
-    w = leb l.radius_both (nat_abs radius)
+    z = option_map_or (λ least. leb least (nat_abs radius)) l.radius_both false
 
     there : crowned l radius p ≡ true → Crowned l radius p
     there e =
-        let f = (and_parts (x && y && z) w e).0 in
-        let g = (and_parts (x && y) z f).0 in
+        let f = and_parts (x && y) z e in
         record {
-          left_side = eq_z_true _ _ (and_parts x y g).0;
-          right_side = eq_z_true _ _ (and_parts x y g).1;
-          allowed = eqb-false l.radius_both no_rule (not-true (eqb l.radius_both no_rule) (and_parts (x && y) z f).1);
-          wide = leb-true l.radius_both (nat_abs radius) (and_parts (x && y && z) w e).1;
+          left_side = eq_z_true _ _ (and_parts x y f.0).0;
+          right_side = eq_z_true _ _ (and_parts x y f.0).1;
+          wide = (wide_iff l.radius_both (nat_abs radius)).0 f.1;
         }
 
     back : Crowned l radius p → crowned l radius p ≡ true
-    back h =
-        and_from (x && y && z) w (and_from (x && y) z (and_from x y (eq_z-same _ _ h.left_side) (eq_z-same _ _ h.right_side)) (ap not (ne_eqb l.radius_both no_rule h.allowed))) (le-leb l.radius_both (nat_abs radius) h.wide)
+    back h = and_from (x && y) z (and_from x y (eq_z-same _ _ h.left_side) (eq_z-same _ _ h.right_side)) ((wide_iff l.radius_both (nat_abs radius)).1 h.wide)
 
 -- the point at an element's start
 abbrev pub start_point : Road → ℕ → Crossfall

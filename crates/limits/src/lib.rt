@@ -3,11 +3,11 @@
 #![tactic(auto)]
 
 ghost use Rattle.std.specs.Prelude.{◌≡◌, ℕ, ◌<◌, slice_index};
-ghost use Rattle.road.specs.Limits.{speed, table, handbook, cell, is_old, radius_min_at, clothoid_at, limits_at, limits_of};
+ghost use Rattle.road.specs.Limits.{speed, table, handbook, cell, limit_of_cell, is_old, radius_min_at, clothoid_at, limits_at, limits_of};
 
 use road::{Class, Contract, Head, LeastClothoid, Limits, Terrain};
 
-// The mark for "-", "no such rule".
+// The mark for "-", "no such rule": in the table it is the form that the project fixes; a limit that is read from the table is an Option.
 pub const NO_RULE: u32 = 4294967295;
 
 // Rows 40 to 100 km/h; straight max, straight min, R min, R', A min, arc min, grade max, sag R, crest R, lane; in mm, grade in ppm.
@@ -59,12 +59,19 @@ pub const CROSSFALL_MAX: u32 = 70000;
 
 pub const CROWN: u32 = 25000;
 
-// The row of a speed; past the rows it is zeros.
+// The row of a speed, which is a number and no enum, since `limits_at` answers for any number; past the rows it is zeros.
 fn row_of<const COLUMNS: usize>(rows: &[[u32; COLUMNS]], speed: u32) -> [u32; COLUMNS]
     ensures { (column : ℕ) → column < COLUMNS → slice_index result column ≡ cell rows.now speed column }
 {
     let row = (speed.saturating_sub(40) / 10) as usize;
     rows.get(row).copied().unwrap_or([0; COLUMNS])
+}
+
+// The limit that a cell holds, where it has one.
+fn limit_of(cell: u32) -> Option<u32>
+    ensures { result ≡ limit_of_cell cell }
+{
+    (cell != NO_RULE).then_some(cell)
 }
 
 // Whether a contract is under the old handbook.
@@ -94,10 +101,10 @@ pub fn limits_at(speed: u32, contract: Contract) -> Limits
     let [old_radius_min, clothoid_length] = row_of(&HANDBOOK, speed);
     let old = is_old(contract);
     Limits {
-        straight_max,
-        straight_min,
+        straight_max: limit_of(straight_max),
+        straight_min: limit_of(straight_min),
         radius_min: if old { old_radius_min } else { radius_min },
-        radius_both,
+        radius_both: limit_of(radius_both),
         clothoid: if old {
             LeastClothoid::Length(clothoid_length)
         } else {

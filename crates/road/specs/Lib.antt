@@ -4,6 +4,7 @@ pub mod Limits
 pub mod Source
 pub mod Lane
 pub mod Exact
+pub mod Totals
 pub mod Held
 pub mod Listed
 pub mod Kinds

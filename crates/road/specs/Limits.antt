@@ -1,5 +1,5 @@
 -- Document 01, "Speed and its row", with the rule book that request A.1 gives to the contract's date.
-use Rattle.std.specs.Prelude.{ℕ, ◌-◌, ◌/◌, List, [], ◌∷◌, Bool, true, false, not, get_or, ltb, eqb}
+use Rattle.std.specs.Prelude.{ℕ, ◌-◌, ◌/◌, List, [], ◌∷◌, Bool, true, false, get_or, ltb, eqb, if◌then◌else◌, Option, None, Some}
 use Rattle.road.specs.File.{Road}
 use Rattle.road.specs.declared.Limits.{Limits}
 use Rattle.road.specs.declared.Contract.{Contract}
@@ -40,8 +40,9 @@ speed class terrain = get_or (get_or speeds (class_row class) []) (terrain_colum
 abbrev pub no_rule : ℕ
 no_rule = 4_294_967_295
 
-abbrev pub ruled : ℕ → Bool
-ruled limit = not (eqb limit no_rule)
+-- the limit that a cell holds
+abbrev pub limit_of_cell : ℕ → Option ℕ
+limit_of_cell x = if eqb x no_rule then None else Some x
 
 -- today's rule book, rows 40 to 100 km/h; straight max, straight min, R min, R', A min, arc min, grade max, sag R, crest R, lane; in mm, grade in ppm
 abbrev pub table : List (List ℕ)
@@ -89,10 +90,10 @@ clothoid_at v false = Parameter (cell table v 4)
 -- "The row of the speed decides every limit below"; refusals 17 and 19 have the crossfalls in ppm
 unfoldable pub limits_at : (speed : ℕ) → Contract → Limits
 limits_at v contract = record {
-  straight_max = cell table v 0;
-  straight_min = cell table v 1;
+  straight_max = limit_of_cell (cell table v 0);
+  straight_min = limit_of_cell (cell table v 1);
   radius_min = radius_min_at v (is_old contract);
-  radius_both = cell table v 3;
+  radius_both = limit_of_cell (cell table v 3);
   clothoid = clothoid_at v (is_old contract);
   arc_min = cell table v 5;
   grade_max = cell table v 6;

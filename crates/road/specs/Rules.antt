@@ -5,7 +5,8 @@ use Rattle.std.specs.Int.Signed.{lt_z}
 use Rattle.file_numbers.specs.Reading.{Got, got, refused, and_then}
 use Rattle.road.specs.Base.{first_that}
 use Rattle.road.specs.File.{Road, read}
-use Rattle.road.specs.Limits.{limits, ruled}
+use Rattle.std.specs.Option.{option_map_or}
+use Rattle.road.specs.Limits.{limits}
 use Rattle.road.specs.declared.Limits.{Limits}
 use Rattle.road.specs.Exact.{blank_element, blank_crossfall, element_of, tangent_of, tangent_before, point_of, is_straight, is_arc, is_clothoid, element_start, tangent_start, total, point_at, Side, left, right, crossfall_of}
 use Rattle.road.specs.declared.LeastClothoid.{LeastClothoid}
@@ -98,14 +99,13 @@ wrong_link earlier before e after =
 
 -- 8. "A straight is longer than straight max (place: element)."
 abbrev pub long_straight : Limits → Element → Bool
-long_straight l e = is_straight e && ruled l.straight_max && ltb l.straight_max e.length
+long_straight l e = is_straight e && option_map_or (λ most. ltb most e.length) l.straight_max false
 
 -- 9. "A straight between bends of the same turn is shorter than straight min (place: element)."
 unfoldable pub short_straight : Limits → (before : ℤ) → Element → (after : ℤ) → Bool
 short_straight l before e after =
-    is_straight e && ruled l.straight_min
-    && same_turn before after
-    && ltb e.length l.straight_min
+    is_straight e && same_turn before after
+    && option_map_or (λ least. ltb e.length least) l.straight_min false
 
 -- 10. "An arc's radius, unsigned, is below R min (place: element)."
 abbrev pub tight_arc : Limits → Element → Bool
@@ -201,7 +201,7 @@ superelevated radius p = eq_z p.left (neg_ℤ p.right) && lt_z (crossfall_of (in
 
 -- "−25,000 on both sides with radius, unsigned, at least R'"
 abbrev pub crowned : Limits → ℤ → Crossfall → Bool
-crowned l radius p = eq_z p.left (neg_ℤ (pos l.crown)) && eq_z p.right (neg_ℤ (pos l.crown)) && ruled l.radius_both && leb l.radius_both (nat_abs radius)
+crowned l radius p = eq_z p.left (neg_ℤ (pos l.crown)) && eq_z p.right (neg_ℤ (pos l.crown)) && option_map_or (λ least. leb least (nat_abs radius)) l.radius_both false
 
 unfoldable pub allowed : Limits → ℤ → Crossfall → Bool
 allowed l radius p = superelevated radius p || crowned l radius p

@@ -1,20 +1,28 @@
 // An alignment: its head, the start height, and the three lists in arrays with their counts.
 
 ghost use Rattle.std.specs.Prelude.{◌≡◌, ◌<◌, ◌≤◌, ◌++◌, ◌∷◌, [], length, pos};
+ghost use Rattle.road.specs.Exact.{total};
 
 use crate::{Crossfall, Element, Head, Tangent};
 use std::marker::Model;
 
-// An alignment is held as three lists with their counts. Contracts see the road that it holds.
-#[derive(Drop)]
+// The most items that a file may list.
+const MOST_ELEMENTS: usize = 200;
+
+const MOST_TANGENTS: usize = 100;
+
+const MOST_CROSSFALLS: usize = 200;
+
+// An alignment is held as three arrays with their counts, the form that the project fixes, and no heap. Contracts see the road that it holds.
+#[derive(Clone, Drop)]
 pub struct Alignment {
     head: Head,
-    elements: [Element; 200],
+    elements: [Element; MOST_ELEMENTS],
     element_count: usize,
     start: i32,
-    tangents: [Tangent; 100],
+    tangents: [Tangent; MOST_TANGENTS],
     tangent_count: usize,
-    crossfalls: [Crossfall; 200],
+    crossfalls: [Crossfall; MOST_CROSSFALLS],
     crossfall_count: usize,
 }
 
@@ -37,12 +45,12 @@ impl Alignment {
     {
         Alignment {
             head,
-            elements: [Element::BLANK; 200],
+            elements: [Element::BLANK; MOST_ELEMENTS],
             element_count: 0,
             start: 0,
-            tangents: [Tangent::BLANK; 100],
+            tangents: [Tangent::BLANK; MOST_TANGENTS],
             tangent_count: 0,
-            crossfalls: [Crossfall::BLANK; 200],
+            crossfalls: [Crossfall::BLANK; MOST_CROSSFALLS],
             crossfall_count: 0,
         }
     }
@@ -84,14 +92,21 @@ impl Alignment {
         &self.crossfalls[..self.crossfall_count]
     }
 
+    // The plan length T.
+    pub fn total(&self) -> u64
+        ensures { result ≡ total self.now }
+    {
+        self.elements().iter().map(|e| u64::from(e.length)).sum()
+    }
+
     pub fn set_head(&mut self, head: Head)
-        ensures { self.new ≡ record { head = head; plan = self.old.plan; start = self.old.start; tangents = self.old.tangents; crossfalls = self.old.crossfalls } }
+        ensures { self.new ≡ record self.old { head = head } }
     {
         self.head = head;
     }
 
     pub fn set_start(&mut self, start: i32)
-        ensures { self.new ≡ record { head = self.old.head; plan = self.old.plan; start = start; tangents = self.old.tangents; crossfalls = self.old.crossfalls } }
+        ensures { self.new ≡ record self.old { start = start } }
     {
         self.start = start;
     }
@@ -99,7 +114,7 @@ impl Alignment {
     // One more element behind the others.
     pub fn push_element(&mut self, e: Element)
         requires { length self.old.plan < 200 }
-        ensures { self.new ≡ record { head = self.old.head; plan = self.old.plan ++ (e ∷ []); start = self.old.start; tangents = self.old.tangents; crossfalls = self.old.crossfalls } }
+        ensures { self.new ≡ record self.old { plan = self.old.plan ++ (e ∷ []) } }
     {
         self.elements[self.element_count] = e;
         self.element_count += 1;
@@ -108,7 +123,7 @@ impl Alignment {
     // One more tangent behind the others.
     pub fn push_tangent(&mut self, t: Tangent)
         requires { length self.old.tangents < 100 }
-        ensures { self.new ≡ record { head = self.old.head; plan = self.old.plan; start = self.old.start; tangents = self.old.tangents ++ (t ∷ []); crossfalls = self.old.crossfalls } }
+        ensures { self.new ≡ record self.old { tangents = self.old.tangents ++ (t ∷ []) } }
     {
         self.tangents[self.tangent_count] = t;
         self.tangent_count += 1;
@@ -117,7 +132,7 @@ impl Alignment {
     // One more crossfall point behind the others.
     pub fn push_crossfall(&mut self, p: Crossfall)
         requires { length self.old.crossfalls < 200 }
-        ensures { self.new ≡ record { head = self.old.head; plan = self.old.plan; start = self.old.start; tangents = self.old.tangents; crossfalls = self.old.crossfalls ++ (p ∷ []) } }
+        ensures { self.new ≡ record self.old { crossfalls = self.old.crossfalls ++ (p ∷ []) } }
     {
         self.crossfalls[self.crossfall_count] = p;
         self.crossfall_count += 1;

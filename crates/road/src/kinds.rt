@@ -1,6 +1,6 @@
 // The numbers by which a file names a kind, a class and a terrain, and the places of class and terrain in the table of speeds.
 
-ghost use Rattle.std.specs.Prelude.{◌≡◌, ◌<◌};
+ghost use Rattle.std.specs.Prelude.{◌≡◌, ◌<◌, ◌≤◌, ◌-◌, ok_or, slice_get, Err};
 ghost use Rattle.road.specs.File.{kind_of, class_of, terrain_of};
 ghost use Rattle.road.specs.Limits.{class_row, terrain_column};
 ghost use Rattle.road.specs.Exact.{is_straight, is_arc, is_clothoid};
@@ -8,18 +8,24 @@ ghost use Rattle.road.specs.Faults.{named};
 
 use crate::{Class, Element, Fault, Kind, Terrain};
 
+// What a number stands for in a list whose first item has the number `first`.
+fn named<T: Copy>(first: u32, all: &[T], number: u32) -> Result<T, Fault>
+    ensures within { first ≤ number → result ≡ ok_or (slice_get all.now (number - first)) Fault.OutOfRange }
+    ensures below { number < first → result ≡ Err Fault.OutOfRange }
+{
+    number
+        .checked_sub(first)
+        .and_then(|place| all.get(place as usize).copied())
+        .ok_or(Fault::OutOfRange)
+}
+
 impl TryFrom<u32> for Kind {
     type Error = Fault;
 
     ghost try_from_gives = { λ number result. result ≡ named 0 2 kind_of number };
 
     fn try_from(number: u32) -> Result<Self, Fault> {
-        match number {
-            0 => Ok(Kind::Straight),
-            1 => Ok(Kind::Arc),
-            2 => Ok(Kind::Clothoid),
-            _ => Err(Fault::OutOfRange),
-        }
+        named(0, &[Kind::Straight, Kind::Arc, Kind::Clothoid], number)
     }
 }
 
@@ -29,13 +35,16 @@ impl TryFrom<u32> for Class {
     ghost try_from_gives = { λ number result. result ≡ named 1 4 class_of number };
 
     fn try_from(number: u32) -> Result<Self, Fault> {
-        match number {
-            1 => Ok(Class::LongDistance),
-            2 => Ok(Class::Connecting),
-            3 => Ok(Class::Collecting),
-            4 => Ok(Class::Access),
-            _ => Err(Fault::OutOfRange),
-        }
+        named(
+            1,
+            &[
+                Class::LongDistance,
+                Class::Connecting,
+                Class::Collecting,
+                Class::Access,
+            ],
+            number,
+        )
     }
 }
 
@@ -45,12 +54,11 @@ impl TryFrom<u32> for Terrain {
     ghost try_from_gives = { λ number result. result ≡ named 1 3 terrain_of number };
 
     fn try_from(number: u32) -> Result<Self, Fault> {
-        match number {
-            1 => Ok(Terrain::Flat),
-            2 => Ok(Terrain::Hilly),
-            3 => Ok(Terrain::Mountain),
-            _ => Err(Fault::OutOfRange),
-        }
+        named(
+            1,
+            &[Terrain::Flat, Terrain::Hilly, Terrain::Mountain],
+            number,
+        )
     }
 }
 

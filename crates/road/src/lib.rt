@@ -17,7 +17,8 @@ pub enum Kind {
     Clothoid,
 }
 
-// An element of the plan; the radius of what is no arc is 0.
+// An element of the plan. The radius of what is no arc is 0, which is no turn.
+// Whether two elements turn the same way is a question of two numbers (`are_same_turn`); with the radius in `Kind::Arc` each such test would match two kinds first.
 #[derive(Clone, Copy)]
 pub struct Element {
     pub kind: Kind,
@@ -26,7 +27,7 @@ pub struct Element {
 }
 
 impl Element {
-    // What stands past either end of the plan.
+    // What stands past either end of the plan, and fills an array: a rule asks of a neighbour as of any element, where with an Option each test would first ask whether there is one.
     pub const BLANK: Element = Element {
         kind: Kind::Straight,
         length: 0,
@@ -43,7 +44,7 @@ pub struct Tangent {
 }
 
 impl Tangent {
-    // What stands past either end of the profile.
+    // What stands past either end of the profile, and fills an array: a rule asks of a neighbour as of any tangent.
     pub const BLANK: Tangent = Tangent {
         length: 0,
         grade: 0,
@@ -60,7 +61,7 @@ pub struct Crossfall {
 }
 
 impl Crossfall {
-    // What stands past either end of the crossfall points.
+    // What stands past either end of the crossfall points, and fills an array: a rule asks of a neighbour as of any point.
     pub const BLANK: Crossfall = Crossfall {
         station: 0,
         left: 0,
@@ -69,6 +70,7 @@ impl Crossfall {
 }
 
 // What a file says of its contract: no date, or the day on which it was made.
+// An enum and not an Option: `Undated` and `Dated` are what a file can say, and a contract with granted exceptions would be a third case.
 #[derive(Clone, Copy)]
 pub enum Contract {
     Undated,
@@ -109,13 +111,13 @@ pub struct Head {
     pub ramp: u32,
 }
 
-// What the rules and the drop ask of the rule book: the row of a speed, and the crossfalls of refusals 17 and 19.
+// What the rules and the drop ask of the rule book: the row of a speed, where three limits may be missing, and the crossfalls of refusals 17 and 19.
 #[derive(Clone, Copy)]
 pub struct Limits {
-    pub straight_max: u32,
-    pub straight_min: u32,
+    pub straight_max: Option<u32>,
+    pub straight_min: Option<u32>,
     pub radius_min: u32,
-    pub radius_both: u32,
+    pub radius_both: Option<u32>,
     pub clothoid: LeastClothoid,
     pub arc_min: u32,
     pub grade_max: u32,
@@ -128,6 +130,7 @@ pub struct Limits {
 }
 
 // An element with its place, its list's count, where it ends, the two before it and the one after it; past either end of a list stands the blank item.
+// Three structs for the three lists, since the rules of each ask something else beside the neighbours.
 #[derive(Clone, Copy)]
 pub struct ElementAmong {
     pub place: usize,
@@ -139,7 +142,7 @@ pub struct ElementAmong {
     pub after: Element,
 }
 
-// A tangent with those beside it.
+// A tangent with those beside it: its rules ask nothing else.
 #[derive(Clone, Copy)]
 pub struct TangentAmong {
     pub before: Tangent,
@@ -147,7 +150,7 @@ pub struct TangentAmong {
     pub after: Tangent,
 }
 
-// A crossfall point with its place, its list's count, T, the ramp limit, and those beside it.
+// A crossfall point with its place, its list's count, the plan length T, the ramp limit, and those beside it.
 #[derive(Clone, Copy)]
 pub struct PointAmong {
     pub place: usize,
@@ -159,36 +162,36 @@ pub struct PointAmong {
     pub after: Crossfall,
 }
 
-// The rules of an element with those beside it.
-#[derive(Clone, Copy)]
+// The rules of an element with those beside it, each with the refusal's number.
+#[derive(Clone, Copy, Debug, PartialEq, Eq)]
 pub enum ElementRule {
-    PlanLength,
-    Kinds,
-    LinkedArcs,
-    LongStraight,
-    TightArc,
-    ShortArc,
-    ShortClothoid,
+    PlanLength = 5,
+    Kinds = 7,
+    LinkedArcs = 23,
+    LongStraight = 8,
+    TightArc = 10,
+    ShortArc = 11,
+    ShortClothoid = 12,
 }
 
-// The rules of a tangent with those beside it.
-#[derive(Clone, Copy)]
+// The rules of a tangent with those beside it, each with the refusal's number.
+#[derive(Clone, Copy, Debug, PartialEq, Eq)]
 pub enum TangentRule {
-    SteepTangent,
-    ShortTangent,
-    SharpVertex,
+    SteepTangent = 13,
+    ShortTangent = 14,
+    SharpVertex = 15,
 }
 
-// The rules of a crossfall point with those beside it.
-#[derive(Clone, Copy)]
+// The rules of a crossfall point with those beside it, each with the refusal's number.
+#[derive(Clone, Copy, Debug, PartialEq, Eq)]
 pub enum PointRule {
-    MisplacedPoint,
-    WrongCrossfall,
-    SteepRamp,
+    MisplacedPoint = 16,
+    WrongCrossfall = 17,
+    SteepRamp = 18,
 }
 
 // The rules of a road: those of the items of one list, and three that look further.
-#[derive(Clone, Copy)]
+#[derive(Clone, Copy, Debug, PartialEq, Eq)]
 pub enum Rule {
     Element(ElementRule),
     OtherTotal,

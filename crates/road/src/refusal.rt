@@ -6,7 +6,7 @@ ghost use Rattle.road.specs.Faults.{fault_number, element_number, tangent_number
 use crate::{ElementRule, PointRule, Rule, TangentRule};
 
 // What a file or a call is refused for.
-#[derive(Clone, Copy)]
+#[derive(Clone, Copy, Debug, PartialEq, Eq)]
 pub enum Fault {
     LongFile,
     BrokenNumber,
@@ -20,7 +20,7 @@ pub enum Fault {
 }
 
 // A refusal: what for, and its place.
-#[derive(Clone, Copy)]
+#[derive(Clone, Copy, Debug, PartialEq, Eq)]
 pub struct Refusal {
     pub fault: Fault,
     pub place: usize,
@@ -31,15 +31,7 @@ impl ElementRule {
     pub fn number(self) -> u32
         ensures { result ≡ element_number self }
     {
-        match self {
-            ElementRule::PlanLength => 5,
-            ElementRule::Kinds => 7,
-            ElementRule::LinkedArcs => 23,
-            ElementRule::LongStraight => 8,
-            ElementRule::TightArc => 10,
-            ElementRule::ShortArc => 11,
-            ElementRule::ShortClothoid => 12,
-        }
+        self as u32
     }
 }
 
@@ -48,11 +40,7 @@ impl TangentRule {
     pub fn number(self) -> u32
         ensures { result ≡ tangent_number self }
     {
-        match self {
-            TangentRule::SteepTangent => 13,
-            TangentRule::ShortTangent => 14,
-            TangentRule::SharpVertex => 15,
-        }
+        self as u32
     }
 }
 
@@ -61,16 +49,12 @@ impl PointRule {
     pub fn number(self) -> u32
         ensures { result ≡ point_number self }
     {
-        match self {
-            PointRule::MisplacedPoint => 16,
-            PointRule::WrongCrossfall => 17,
-            PointRule::SteepRamp => 18,
-        }
+        self as u32
     }
 }
 
 impl Rule {
-    // The refusal's number.
+    // The refusal's number; a match, since `as` gives no number of an enum whose cases hold a value.
     pub fn number(self) -> u32
         ensures { result ≡ rule_number self }
     {
@@ -93,7 +77,7 @@ impl Fault {
         Refusal { fault: self, place }
     }
 
-    // The number by which the papers know it.
+    // The number by which the papers know it; a match, as at `Rule`.
     pub fn number(self) -> u32
         ensures { result ≡ fault_number self }
     {
