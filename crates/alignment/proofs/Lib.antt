@@ -1,3 +1,5 @@
+pub mod Ends
 pub mod Onward
 pub mod Lists
 pub mod Parts
+pub mod Within

@@ -2,7 +2,8 @@
 
 #![tactic(auto)]
 
-ghost use Rattle.std.specs.Prelude.{◌≡◌};
+ghost use Rattle.std.specs.Prelude.{◌≡◌, length, IfOk};
+ghost use Rattle.file_numbers.specs.Reading.{got};
 ghost use Rattle.road.specs.File.{fields, read};
 ghost use Rattle.road.specs.Faults.{of_result, of_got};
 ghost use Rattle.fields.specs.Reads.{Reads};
@@ -12,50 +13,46 @@ use item_fields::{read_crossfall, read_element, read_head, read_tangent};
 use reader::Reader;
 use road::{Alignment, Fault, Refusal};
 
-// The greatest file, in bytes.
-const LONGEST: usize = 8192;
+// The most bytes that a file may have.
+const MOST_BYTES: usize = 8192;
 
 // Every field of the file, in order.
+// A loop for each list: one function over a reading and a push was tried: it takes five arguments, and cannot show the push that there is room.
 #[tactic(auto, using(fields::specs::Onward::stopped, crate::proofs::Parts::few), unfolding(road::specs::File::fields))]
 fn read_fields(r: &mut Reader) -> Result<Alignment, Refusal>
     ensures { Reads fields r.old r.new result }
 {
     let mut a = Alignment::new(read_head(r)?);
-    let elements = read_field(r, 1, 200)?;
+    let elements = read_field(r, 1..=200)?;
     for _ in 0..elements {
         a.push_element(read_element(r)?);
     }
-    a.set_start(read_signed(r, -500_000, 3_000_000)?);
-    let tangents = read_field(r, 1, 100)?;
-    for follow in (0..tangents).rev() {
+    a.set_start(read_signed(r, -500_000..=3_000_000)?);
+    let tangents = read_field(r, 1..=100)?;
+    for follow in (0..tangents as usize).rev() {
         a.push_tangent(read_tangent(r, follow)?);
     }
-    let crossfalls = read_field(r, 2, 200)?;
+    let crossfalls = read_field(r, 2..=200)?;
     for _ in 0..crossfalls {
         a.push_crossfall(read_crossfall(r)?);
     }
     Ok(a)
 }
 
-// The whole file.
-#[tactic(auto, unfolding(road::specs::File::read, road::specs::File::ended))]
+// The whole file, to its last byte.
+#[tactic(auto, using(crate::proofs::Within::read_whole), unfolding(road::specs::File::read, road::specs::File::ended))]
 pub fn read(file: &[u8]) -> Result<Alignment, Refusal>
-    ensures { of_result result ≡ of_got (read file.now) }
+    ensures answer { of_result result ≡ of_got (read file.now) }
+    ensures whole { IfOk result (λ road. read file.now ≡ got road (length file.now)) }
 {
-    if file.len() > LONGEST {
-        return Err(Refusal {
-            fault: Fault::LongFile,
-            place: LONGEST,
-        });
+    if file.len() > MOST_BYTES {
+        return Err(Fault::LongFile.at(MOST_BYTES));
     }
     let mut r = Reader::new(file);
     let alignment = read_fields(&mut r)?;
     let place = r.place();
     if place < file.len() {
-        return Err(Refusal {
-            fault: Fault::BytesBehind,
-            place,
-        });
+        return Err(Fault::BytesBehind.at(place));
     }
     Ok(alignment)
 }

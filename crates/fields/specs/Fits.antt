@@ -15,7 +15,7 @@ module _ {A : Type 0} (says : ℕ → A) (fits : A → Bool) (fault : Fault) whe
   pub fitted : {before after : Standing} {result : Result A Refusal}
       → Reads (saying (λ v. where_fits fits fault (says v))) before after result → Reads (λ s at. and_then (number s at) λ v next. fitting (fault_number fault) fits (says v) at s next) before after result
   unfolding fitting
-  fitted r = alike (λ s at. go (number s at) s at) r
+  fitted {before} r = alike (λ at. go (number before.bytes at) before.bytes at) r
     where
       go : (g : Got ℕ) (s : List ℕ) (at : ℕ) → and_then g (λ v next. said_at at next (where_fits fits fault (says v))) ≡ and_then g (λ v next. fitting (fault_number fault) fits (says v) at s next)
       go (got v next) s at = one (fits (says v))
@@ -29,7 +29,7 @@ module _ {A : Type 0} (says : ℕ → A) (fits : A → Bool) (fault : Fault) whe
 module _ {A : Type 0} (low high : ℕ) (of : ℕ → A) where
   pub chosen : {before after : Standing} {result : Result A Refusal} → Reads (saying (named low high of)) before after result → Reads (choice low high of) before after result
   unfolding choice field fitting
-  chosen r = alike (λ s at. go (number s at) s at) r
+  chosen {before} r = alike (λ at. go (number before.bytes at) before.bytes at) r
     where
       go : (g : Got ℕ) (s : List ℕ) (at : ℕ) → and_then g (λ v next. said_at at next (named low high of v)) ≡ and_then (and_then g (λ v next. if leb low v && leb v high then got v next else refused 3 at)) (λ v next. got (of v) next)
       go (got v next) s at = one (leb low v && leb v high)

@@ -10,9 +10,9 @@ use Rattle.fields.specs.Reads.{Reads}
 pub gives : {A : Type 0} {a : A} {at : Standing} → Reads (give a) at at (Ok a)
 gives = record { bytes = refl; read = refl }
 
--- readings that agree at every place
-pub alike : {A : Type 0} {m n : Reading A} → ((s : List ℕ) (at : ℕ) → m s at ≡ n s at) → {before after : Standing} {result : Result A Refusal} → Reads m before after result → Reads n before after result
-alike same {before} r = record { bytes = r.bytes; read = r.read ∙ same before.bytes before.place }
+-- readings that agree at every place of the bytes
+pub alike : {A : Type 0} {m n : Reading A} {before after : Standing} {result : Result A Refusal} → ((at : ℕ) → m before.bytes at ≡ n before.bytes at) → Reads m before after result → Reads n before after result
+alike {before = before} same r = record { bytes = r.bytes; read = r.read ∙ same before.place }
 
 module _ {A B : Type 0} {m : Reading A} (f : A → Reading B) where
   -- after a value, reading goes on with it
@@ -36,4 +36,4 @@ module _ {A B C : Type 0} (m : Reading A) (f : A → Reading B) (g : B → Readi
       go (refused k p) = refl
 
   pub grouped : {before after : Standing} {result : Result C Refusal} → Reads (◌>>=◌ (◌>>=◌ m f) g) before after result → Reads (◌>>=◌ m (λ a. ◌>>=◌ (f a) g)) before after result
-  grouped r = alike regrouped r
+  grouped {before} r = alike (regrouped before.bytes) r

@@ -2,30 +2,23 @@
 
 #![tactic(auto, using(fields::specs::Onward::chained, fields::specs::Onward::stopped, fields::specs::Onward::gives, crate::proofs::Contracts::dated, crate::proofs::Contracts::plain), unfolding(road::specs::File::element, road::specs::File::tangent, road::specs::File::point, road::specs::File::dated_fields, road::specs::File::head_fields))]
 
-ghost use Rattle.road.specs.File.{radius, element, half, tangent, point, contract_fields, head_fields};
+ghost use Rattle.road.specs.File.{element, half, tangent, point, contract_fields, head_fields};
 ghost use Rattle.fields.specs.Reads.{Reads};
 
 use fields::{read_as, read_date, read_field, read_number, read_signed, read_sized};
 use reader::Reader;
 use road::{Class, Contract, Crossfall, Element, Head, Kind, Refusal, Tangent, Terrain};
 
-// Only an arc has a radius.
-fn read_radius(r: &mut Reader, arc: bool) -> Result<i32, Refusal>
-    ensures { Reads (radius arc) r.old r.new result }
-{
-    if arc {
-        read_sized(r, 10_000, 10_000_000)
-    } else {
-        Ok(0)
-    }
-}
-
 pub fn read_element(r: &mut Reader) -> Result<Element, Refusal>
     ensures { Reads element r.old r.new result }
 {
     let kind = read_as(r, Kind::try_from)?;
-    let length = read_field(r, 1, 10_000_000)?;
-    let radius = read_radius(r, kind == Kind::Arc)?;
+    let length = read_field(r, 1..=10_000_000)?;
+    // Only an arc has a radius.
+    let radius = match kind {
+        Kind::Arc => read_sized(r, 10_000..=10_000_000)?,
+        Kind::Straight | Kind::Clothoid => 0,
+    };
     Ok(Element {
         kind,
         length,
@@ -33,22 +26,23 @@ pub fn read_element(r: &mut Reader) -> Result<Element, Refusal>
     })
 }
 
-// The half length of the vertical curve after a tangent that so many others follow.
-fn read_half(r: &mut Reader, follow: u32) -> Result<u32, Refusal>
+// The half length of the vertical curve after a tangent. `follow`: how many tangents follow it, as the definition
+// counts and the reading of the file does; a bool would be made from it at each call.
+fn read_half(r: &mut Reader, follow: usize) -> Result<u32, Refusal>
     ensures { Reads (half follow) r.old r.new result }
 {
     if follow == 0 {
         Ok(0)
     } else {
-        read_field(r, 0, 1_000_000)
+        read_field(r, 0..=1_000_000)
     }
 }
 
-pub fn read_tangent(r: &mut Reader, follow: u32) -> Result<Tangent, Refusal>
+pub fn read_tangent(r: &mut Reader, follow: usize) -> Result<Tangent, Refusal>
     ensures { Reads (tangent follow) r.old r.new result }
 {
-    let length = read_field(r, 1, 10_000_000)?;
-    let grade = read_signed(r, -120_000, 120_000)?;
+    let length = read_field(r, 1..=10_000_000)?;
+    let grade = read_signed(r, -120_000..=120_000)?;
     let half = read_half(r, follow)?;
     Ok(Tangent {
         length,
@@ -60,9 +54,9 @@ pub fn read_tangent(r: &mut Reader, follow: u32) -> Result<Tangent, Refusal>
 pub fn read_crossfall(r: &mut Reader) -> Result<Crossfall, Refusal>
     ensures { Reads point r.old r.new result }
 {
-    let station = read_field(r, 0, 100_000_000)?;
-    let left = read_signed(r, -80_000, 80_000)?;
-    let right = read_signed(r, -80_000, 80_000)?;
+    let station = read_field(r, 0..=100_000_000)?;
+    let left = read_signed(r, -80_000..=80_000)?;
+    let right = read_signed(r, -80_000..=80_000)?;
     Ok(Crossfall {
         station,
         left,
@@ -88,8 +82,8 @@ pub fn read_head(r: &mut Reader) -> Result<Head, Refusal>
     let contract = read_contract(r)?;
     let class = read_as(r, Class::try_from)?;
     let terrain = read_as(r, Terrain::try_from)?;
-    let step = read_field(r, 1_000, 100_000)?;
-    let ramp = read_field(r, 1, 20_000)?;
+    let step = read_field(r, 1_000..=100_000)?;
+    let ramp = read_field(r, 1..=20_000)?;
     Ok(Head {
         contract,
         class,

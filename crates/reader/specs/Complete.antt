@@ -41,3 +41,13 @@ module _ {before after after' : Standing} {read read' : Option ℕ} (one : Passe
       let place : after.place ≡ after'.place = one_place read before.place after.place after'.place (one.number ∙ sym (rw one-number other.number)) one.stays (λ e. other.stays (sym one-number ∙ e)) in
       let bytes : after.bytes ≡ after'.bytes = one.bytes ∙ sym other.bytes in
       λ i. record { bytes = bytes i; place = place i }
+
+-- three numbers, one behind another, and where reading then stands
+module _ {start first second third first' second' third' : Standing} {a b c a' b' c' : Option ℕ} where
+  pub one-three : Passes start first a → Passes first second b → Passes second third c → Passes start first' a' → Passes first' second' b' → Passes second' third' c' → (a ≡ a') × (b ≡ b') × (c ≡ c') × (third ≡ third')
+  one-three p q r p' q' r' =
+      let one : first ≡ first' = one-standing p p' in
+      let q″ : Passes first second' b' = rw one q' in
+      let two : second ≡ second' = one-standing q q″ in
+      let r″ : Passes second third' c' = rw two r' in
+      (one-number p p', one-number q q″, one-number r r″, one-standing r r″)

@@ -8,10 +8,10 @@ ghost use Rattle.file_numbers.specs.Number.{number};
 
 use std::marker::Model;
 
-#[derive(Drop)]
+#[derive(Clone, Drop)]
 pub struct Reader<'a> {
     src: &'a [u8],
-    at: usize,
+    place: usize,
 }
 
 impl<'a> Model for Reader<'a> {
@@ -19,7 +19,7 @@ impl<'a> Model for Reader<'a> {
 
     ghost Value = { Standing };
 
-    ghost view = { λ r. record { bytes = r.src.now; place = r.at } };
+    ghost view = { λ r. record { bytes = r.src.now; place = r.place } };
 }
 
 impl<'a> Reader<'a> {
@@ -27,29 +27,36 @@ impl<'a> Reader<'a> {
     pub fn new(src: &'a [u8]) -> Self
         ensures { result ≡ record { bytes = src.entry.now; place = 0 } }
     {
-        Reader { src, at: 0 }
+        Reader::at(src, 0)
+    }
+
+    // A reader of the caller's bytes, at a place, which may lie behind the last of them.
+    pub fn at(src: &'a [u8], place: usize) -> Self
+        ensures { result ≡ record { bytes = src.entry.now; place = place } }
+    {
+        Reader { src, place }
     }
 
     // Where reading stands.
     pub fn place(&self) -> usize
         ensures { result ≡ self.now.place }
     {
-        self.at
+        self.place
     }
 
     // The number at the reading place, which stays.
     pub fn peek(&self) -> Option<u32>
         ensures { result ≡ value_there (number self.now.bytes self.now.place) }
     {
-        file_numbers::read_number(self.src, self.at).map(|n| n.value)
+        file_numbers::read_number(self.src, self.place).map(|n| n.value)
     }
 
     // The number at the reading place, which moves past it; a number at fault is not passed.
     pub fn number(&mut self) -> Option<u32>
         ensures { Passes self.old self.new result }
     {
-        let number = file_numbers::read_number(self.src, self.at)?;
-        self.at = number.next;
+        let number = file_numbers::read_number(self.src, self.place)?;
+        self.place = number.next;
         Some(number.value)
     }
 }

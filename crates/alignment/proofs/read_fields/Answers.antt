@@ -6,17 +6,18 @@ use Rattle.road.specs.declared.Tangent.{Tangent}
 use Rattle.road.specs.declared.Crossfall.{Crossfall}
 use Rattle.road.specs.File.{element, tangent, point}
 use Rattle.fields.specs.Onward.{gives}
+use Rattle.alignment.proofs.Ends.{field_between, signed_between}
 use Rattle.alignment.proofs.Onward.{ends, onward, refused_there}
 use Rattle.alignment.proofs.Lists.{list_ends, item, item_refused}
 use Rattle.alignment.proofs.Parts.{after_plan, plan_left, profile_left, with_tangents, crossfalls_left, with_crossfalls}
 use Rattle.alignment.proofs.read_fields.Goals as goal
 
 pub returns-in_err-elements : goal.returns-in_err-elements
-returns-in_err-elements c = let p = refused_there _ (plan_left c.in_ok-read_head.ensures) c.in_err-elements.ensures in grind arith
+returns-in_err-elements c = let p = refused_there _ (plan_left c.in_ok-read_head.ensures) (field_between c.new.ensures.start c.new.ensures.end c.in_err-elements.ensures) in grind arith
 
 pub loop-init : goal.loop-init
 loop-init c =
-    let p = onward _ (plan_left c.in_ok-read_head.ensures) c.in_ok-elements.ensures in
+    let p = onward _ (plan_left c.in_ok-read_head.ensures) (field_between c.new.ensures.start c.new.ensures.end c.in_ok-elements.ensures) in
     rw (c.new-a.ensures, sub-zero c.in_ok-elements.elements) (record { left = p; long = refl; no_tangent = refl; no_crossfall = refl })
 
 pub returns-in_err-read_element : goal.returns-in_err-read_element
@@ -34,21 +35,21 @@ loop-preserved c =
 pub returns-in_err-read_signed : goal.returns-in_err-read_signed
 returns-in_err-read_signed c =
     let l = c.loop in
-    let p = refused_there _ (profile_left l.a.head l.a.plan (omega arith) l.invariant.left) c.in_err-read_signed.ensures in
+    let p = refused_there _ (profile_left l.a.head l.a.plan (omega arith) l.invariant.left) (signed_between c.new-2.ensures.start c.new-2.ensures.end c.in_err-read_signed.ensures) in
     grind arith
 
 pub returns-in_err-tangents : goal.returns-in_err-tangents
 returns-in_err-tangents c =
     let l = c.loop in
-    let q = onward _ (profile_left l.a.head l.a.plan (omega arith) l.invariant.left) c.in_ok-read_signed.ensures in
-    let p = refused_there _ q c.in_err-tangents.ensures in
+    let q = onward _ (profile_left l.a.head l.a.plan (omega arith) l.invariant.left) (signed_between c.new-2.ensures.start c.new-2.ensures.end c.in_ok-read_signed.ensures) in
+    let p = refused_there _ q (field_between c.new-3.ensures.start c.new-3.ensures.end c.in_err-tangents.ensures) in
     grind arith
 
 pub loop-follow-init : goal.loop-follow-init
 loop-follow-init c =
     let l = c.loop in
-    let q = onward _ (profile_left l.a.head l.a.plan (omega arith) l.invariant.left) c.in_ok-read_signed.ensures in
-    let p = onward _ q c.in_ok-tangents.ensures in
+    let q = onward _ (profile_left l.a.head l.a.plan (omega arith) l.invariant.left) (signed_between c.new-2.ensures.start c.new-2.ensures.end c.in_ok-read_signed.ensures) in
+    let p = onward _ q (field_between c.new-3.ensures.start c.new-3.ensures.end c.in_ok-tangents.ensures) in
     let same : to_z w32 (of_z w32 c.in_ok-read_signed.field-0) ≡ c.in_ok-read_signed.field-0 = search rules in
     rw (c.set_start.ensures, l.invariant.no_tangent, same) (record { left = p; long = zero-add c.in_ok-tangents.tangents; no_crossfall = l.invariant.no_crossfall })
 
@@ -68,14 +69,14 @@ pub returns-in_err-crossfalls : goal.returns-in_err-crossfalls
 returns-in_err-crossfalls c =
     let l = c.loop-follow in
     let q = crossfalls_left l.a.head l.a.plan l.a.start l.a.tangents (omega arith) l.invariant.left in
-    let p = refused_there _ q c.in_err-crossfalls.ensures in
+    let p = refused_there _ q (field_between c.new-4.ensures.start c.new-4.ensures.end c.in_err-crossfalls.ensures) in
     grind arith
 
 pub loop-2-init : goal.loop-2-init
 loop-2-init c =
     let l = c.loop-follow in
     let q = crossfalls_left l.a.head l.a.plan l.a.start l.a.tangents (omega arith) l.invariant.left in
-    let p = onward _ q c.in_ok-crossfalls.ensures in
+    let p = onward _ q (field_between c.new-4.ensures.start c.new-4.ensures.end c.in_ok-crossfalls.ensures) in
     rw (l.invariant.no_crossfall, sub-zero c.in_ok-crossfalls.crossfalls) (record { left = p; long = refl })
 
 pub returns-in_err-read_crossfall : goal.returns-in_err-read_crossfall

@@ -7,4 +7,4 @@ use Rattle.fields.proofs.read_field.Goals as goal
 
 pub returns : goal.returns
 unfolding field
-returns c = let a = c.args in fitted (λ (v : ℕ). v) (λ (v : ℕ). leb a.low v && leb v a.high) OutOfRange (c.read_as.ensures _ (λ v o p. search rules))
+returns c = let a = c.args in fitted (λ (v : ℕ). v) (λ (v : ℕ). leb a.range.start v && leb v a.range.end) OutOfRange (c.read_as.ensures _ (λ v o p. search rules))

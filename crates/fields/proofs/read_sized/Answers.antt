@@ -7,4 +7,4 @@ use Rattle.fields.proofs.read_sized.Goals as goal
 
 pub returns : goal.returns
 unfolding signed
-returns c = let a = c.args in fitted signed_of (in_size a.low a.high) OutOfRange (c.read_as.ensures _ (λ v o p. search rules))
+returns c = let a = c.args in fitted signed_of (in_size a.range.start a.range.end) OutOfRange (c.read_as.ensures _ (λ v o p. search rules))

@@ -18,10 +18,14 @@ pub returns-in_err-length : goal.returns-in_err-length
 unfolding element
 returns-in_err-length c = grind (arith, chained, stopped, read_kind (goal.at.returns-in_err-length c).In_ok-kind)
 
-pub returns-in_err-radius : goal.returns-in_err-radius
+pub returns-in_err-radius-in-Arc : goal.returns-in_err-radius-in-Arc
 unfolding element
-returns-in_err-radius c = grind (arith, chained, stopped, read_kind (goal.at.returns-in_err-radius c).In_ok-kind)
+returns-in_err-radius-in-Arc c = grind (arith, chained, stopped, read_kind (goal.at.returns-in_err-radius-in-Arc c).In_ok-kind)
 
-pub returns : goal.returns
+pub returns-in_ok-radius-in-Arc : goal.returns-in_ok-radius-in-Arc
 unfolding element
-returns c = grind (arith, chained, gives, read_kind (goal.at.returns c).In_ok-kind)
+returns-in_ok-radius-in-Arc c = grind (arith, chained, gives, read_kind (goal.at.returns-in_ok-radius-in-Arc c).In_ok-kind)
+
+pub returns-in-Straight : goal.returns-in-Straight
+unfolding element
+returns-in-Straight c = grind (arith, chained, gives, read_kind (goal.at.returns-in-Straight c).In_ok-kind)
