@@ -4,7 +4,6 @@ use Rattle.std.proofs.Common.{sym, ap, ◌∙◌}
 use Rattle.file_numbers.specs.Reading.{got, refused}
 use Rattle.road.specs.File.{Road, read}
 use Rattle.road.specs.Faults.{value, refusal, of_got}
-use Rattle.road.specs.Lane.{lane_width}
 use Rattle.road.specs.Limits.{limits, limits_of}
 use Rattle.road.specs.Rules.{Verdict, passes, breaks, judged, under, accepted}
 use Rattle.road.specs.declared.Limits.{Limits}
@@ -38,8 +37,4 @@ module _ (s : List ℕ) where
     pub guaranteed-road : passes ≡ judged l r → Guaranteed r
     guaranteed-road j = guaranteed s r (said-value (read s) e).end (told j)
 
-pub lane-of : (r : Road) {l : Limits} → l ≡ limits_of r.head → l.lane ≡ lane_width r
-unfolding lane_width limits
-lane-of r own = ap (λ (l : Limits). l.lane) own
-
-pub ruleset answers = (unread, turned_away, let_through, guaranteed-road, lane-of)
+pub ruleset answers = (unread, turned_away, let_through)

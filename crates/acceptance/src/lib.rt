@@ -17,6 +17,5 @@ pub fn accept(file: &[u8]) -> Result<AcceptedRoad, Refusal>
     let alignment = alignment::read(file)?;
     let limits = limits::limits_of(alignment.head());
     rules::judge(&alignment, &limits)?;
-    let whole = rules::plan_length(&alignment);
-    Ok(AcceptedRoad::new(alignment, limits.lane, whole))
+    Ok(AcceptedRoad::new(alignment))
 }

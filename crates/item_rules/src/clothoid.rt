@@ -6,7 +6,7 @@ ghost use Rattle.road.specs.Rules.{same_turn, wrong_egg, wrong_link, own_arc, sh
 use road::{Element, ElementAmong, LeastClothoid, Limits};
 
 // The greatest radius beside an egg.
-const EGG_LARGEST: u32 = 1000000;
+pub const EGG_LARGEST: u32 = 1_000_000;
 
 // Whether two radii are of the same turn.
 pub fn are_same_turn(a: i32, b: i32) -> bool
@@ -15,7 +15,7 @@ pub fn are_same_turn(a: i32, b: i32) -> bool
     (0 < a && 0 < b) || (a < 0 && b < 0)
 }
 
-// 23, of an egg
+// Refusal 23, of an egg: equal radii, opposite turns or a radius, unsigned, over 1,000,000 mm.
 #[tactic(auto, unfolding(road::specs::Rules::wrong_egg))]
 fn is_wrong_egg(first: i32, second: i32) -> bool
     ensures { result ≡ wrong_egg first second }
@@ -25,7 +25,7 @@ fn is_wrong_egg(first: i32, second: i32) -> bool
     a == b || !are_same_turn(first, second) || EGG_LARGEST < a || EGG_LARGEST < b
 }
 
-// 23: a clothoid before an arc, with an arc or with a clothoid and an arc before it
+// Refusal 23: a wrong egg, or a pair of clothoids between arcs of the same turn. The clothoid stands before an arc, with an arc or with a clothoid and an arc before it.
 #[tactic(auto, unfolding(road::specs::Rules::wrong_link))]
 pub fn is_wrong_link(e: &ElementAmong) -> bool
     ensures { result ≡ wrong_link e.now.earlier e.now.before e.now.element e.now.after }
@@ -56,38 +56,41 @@ fn own_arc(before: &Element, after: &Element) -> i32
 fn is_short_egg(parameter: u32, length: u32, first: i32, second: i32) -> bool
     ensures { result ≡ short_egg parameter length first second }
 {
-    let over = length as u128 * first.unsigned_abs() as u128 * second.unsigned_abs() as u128;
-    let square = parameter as u128 * parameter as u128;
-    over < square * first.abs_diff(second) as u128
+    let over = u128::from(length)
+        * u128::from(first.unsigned_abs())
+        * u128::from(second.unsigned_abs());
+    let square = u128::from(parameter) * u128::from(parameter);
+    over < square * u128::from(first.abs_diff(second))
 }
 
-// Whether the parameter of a clothoid of a length is below a least one.
+// Whether a clothoid's parameter is below a least one.
 #[tactic(auto, unfolding(road::specs::Rules::below_parameter))]
-fn is_below_parameter(parameter: u32, length: u32, before: &Element, after: &Element) -> bool
-    ensures { result ≡ below_parameter parameter length before.now after.now }
+fn is_below_parameter(parameter: u32, e: &ElementAmong) -> bool
+    ensures { result ≡ below_parameter parameter e.now.element.length e.now.before e.now.after }
 {
-    if before.is_arc() && after.is_arc() {
-        return is_short_egg(parameter, length, before.radius, after.radius);
+    let length = e.element.length;
+    if e.before.is_arc() && e.after.is_arc() {
+        return is_short_egg(parameter, length, e.before.radius, e.after.radius);
     }
-    let radius = own_arc(before, after).unsigned_abs();
-    (length as u64) * (radius as u64) < parameter as u64 * parameter as u64
+    let radius = own_arc(&e.before, &e.after).unsigned_abs();
+    u64::from(length) * u64::from(radius) < u64::from(parameter) * u64::from(parameter)
 }
 
-// Whether a clothoid of a length falls short of what is asked of it.
+// Whether a clothoid falls short of what is asked of it.
 #[tactic(auto, unfolding(road::specs::Rules::too_short))]
-fn is_too_short(least: LeastClothoid, length: u32, before: &Element, after: &Element) -> bool
-    ensures { result ≡ too_short least length before.now after.now }
+fn is_too_short(least: LeastClothoid, e: &ElementAmong) -> bool
+    ensures { result ≡ too_short least e.now.element.length e.now.before e.now.after }
 {
     match least {
-        LeastClothoid::Parameter(parameter) => is_below_parameter(parameter, length, before, after),
-        LeastClothoid::Length(shortest) => length < shortest,
+        LeastClothoid::Parameter(parameter) => is_below_parameter(parameter, e),
+        LeastClothoid::Length(shortest) => e.element.length < shortest,
     }
 }
 
-// 12
+// Refusal 12: a clothoid is too short for its arc or its arcs, or for the old handbook.
 #[tactic(auto, unfolding(road::specs::Rules::short_clothoid))]
 pub fn is_short_clothoid(l: &Limits, e: &ElementAmong) -> bool
     ensures { result ≡ short_clothoid l.now e.now.before e.now.element e.now.after }
 {
-    e.element.is_clothoid() && is_too_short(l.clothoid, e.element.length, &e.before, &e.after)
+    e.element.is_clothoid() && is_too_short(l.clothoid, e)
 }

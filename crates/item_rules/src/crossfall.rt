@@ -1,7 +1,7 @@
 // The rules of the crossfall points: tests of a point with those beside it.
 
-ghost use Rattle.std.specs.Prelude.{◌≡◌};
-ghost use Rattle.road.specs.Rules.{misplaced, wrong_side, wrong_crossfall, steep_side, steep_ramp, point_test, not_beyond};
+ghost use Rattle.std.specs.Prelude.{◌≡◌, ◌≤◌};
+ghost use Rattle.road.specs.Rules.{misplaced, wrong_side, wrong_crossfall, steep_ramp, point_test, not_beyond};
 
 use crate::ItemRule;
 use road::{Crossfall, Limits, PointAmong, PointRule};
@@ -17,16 +17,16 @@ fn is_not_beyond(p: &PointAmong) -> bool
     }
 }
 
-// 16
+// Refusal 16: point 0 not at 0, a point not beyond the one before it, or the last not at T.
 #[tactic(auto, unfolding(road::specs::Rules::misplaced))]
 fn is_misplaced(p: &PointAmong) -> bool
     ensures { result ≡ misplaced p.now.place p.now.count p.now.whole p.now.before p.now.point }
 {
     let last = p.count.saturating_sub(p.place) == 1;
-    is_not_beyond(p) || (last && p.point.station as u64 != p.whole)
+    is_not_beyond(p) || (last && u64::from(p.point.station) != p.whole)
 }
 
-// 17
+// Refusal 17, of a side: a crossfall, unsigned, is below 25,000 or above 70,000.
 #[tactic(auto, unfolding(road::specs::Rules::wrong_side))]
 fn is_wrong_side(l: &Limits, crossfall: i32) -> bool
     ensures { result ≡ wrong_side l.now crossfall }
@@ -42,20 +42,15 @@ fn is_wrong_crossfall(l: &Limits, p: &Crossfall) -> bool
     is_wrong_side(l, p.left) || is_wrong_side(l, p.right)
 }
 
-// 18
-fn is_steep_side(lane: u32, ramp: u32, distance: u32, from: i32, to: i32) -> bool
-    ensures { result ≡ steep_side lane ramp distance from to }
-{
-    (ramp as u64) * (distance as u64) < lane as u64 * to.abs_diff(from) as u64
-}
-
+// Refusal 18: lane width times the change of a side's crossfall exceeds ramp limit times the distance to the next point.
 #[tactic(auto, unfolding(road::specs::Rules::steep_ramp))]
 fn is_steep_ramp(lane: u32, p: &PointAmong) -> bool
     ensures { result ≡ steep_ramp lane p.now.ramp p.now.point p.now.after }
 {
     let distance = p.after.station.saturating_sub(p.point.station);
-    is_steep_side(lane, p.ramp, distance, p.point.left, p.after.left)
-        || is_steep_side(lane, p.ramp, distance, p.point.right, p.after.right)
+    let most = u64::from(p.ramp) * u64::from(distance);
+    let is_steep = |from: i32, to: i32| most < u64::from(lane) * u64::from(to.abs_diff(from));
+    is_steep(p.point.left, p.after.left) || is_steep(p.point.right, p.after.right)
 }
 
 impl ItemRule for PointRule {
@@ -64,7 +59,8 @@ impl ItemRule for PointRule {
     ghost test = { point_test };
 
     fn places(self, count: usize) -> usize
-        ensures { result ≡ (point_test self).places count }
+        ensures places { result ≡ (point_test self).places count }
+        ensures within { result ≤ count }
     {
         match self {
             PointRule::SteepRamp => count.saturating_sub(1),

@@ -8,7 +8,7 @@ use crate::{ItemRule, clothoid};
 use road::{Element, ElementAmong, ElementRule, Limits};
 
 // The plan length that a road may have; no limit of the rule book.
-const LONGEST: u64 = 100000000;
+pub const LONGEST: u64 = 100_000_000;
 
 // Whether an element may follow the two before it.
 #[tactic(auto, unfolding(road::specs::Rules::may_follow))]
@@ -22,7 +22,7 @@ fn may_follow(earlier: &Element, before: &Element, e: &Element) -> bool
     }
 }
 
-// 7
+// Refusal 7: a kind that no allowed order can have after the kinds before it, or a plan that stops short.
 #[tactic(auto, unfolding(road::specs::Rules::wrong_kind))]
 fn is_wrong_kind(e: &ElementAmong) -> bool
     ensures { result ≡ wrong_kind e.now.place e.now.count e.now.earlier e.now.before e.now.element }
@@ -36,32 +36,31 @@ fn is_wrong_kind(e: &ElementAmong) -> bool
     !may_follow(&e.earlier, &e.before, &e.element)
 }
 
-// 8
+// Refusal 8: a straight is longer than straight max.
 fn is_long_straight(l: &Limits, e: &Element) -> bool
     ensures { result ≡ long_straight l.now e.now }
 {
-    e.is_straight() && l.straight_max != limits::NO_RULE && l.straight_max < e.length
+    e.is_straight() && l.straight_max.is_some_and(|most| most < e.length)
 }
 
-// 9, of a straight and the arcs before it and after it
+// Refusal 9: a straight between bends of the same turn, the arcs before it and after it, is shorter than straight min.
 #[tactic(auto, unfolding(road::specs::Rules::short_straight))]
 pub fn is_short_straight(l: &Limits, before: &Element, e: &Element, after: &Element) -> bool
     ensures { result ≡ short_straight l.now before.now.radius e.now after.now.radius }
 {
     e.is_straight()
-        && l.straight_min != limits::NO_RULE
         && clothoid::are_same_turn(before.radius, after.radius)
-        && e.length < l.straight_min
+        && l.straight_min.is_some_and(|least| e.length < least)
 }
 
-// 10
+// Refusal 10: an arc's radius, unsigned, is below R min.
 fn is_tight_arc(l: &Limits, e: &Element) -> bool
     ensures { result ≡ tight_arc l.now e.now }
 {
     e.is_arc() && e.radius.unsigned_abs() < l.radius_min
 }
 
-// 11
+// Refusal 11: an arc is shorter than arc min.
 fn is_short_arc(l: &Limits, e: &Element) -> bool
     ensures { result ≡ short_arc l.now e.now }
 {
@@ -93,16 +92,21 @@ impl ItemRule for ElementRule {
     }
 }
 
+// The rules of an element.
+const ELEMENT_RULES: [ElementRule; 7] = [
+    ElementRule::PlanLength,
+    ElementRule::Kinds,
+    ElementRule::LinkedArcs,
+    ElementRule::LongStraight,
+    ElementRule::TightArc,
+    ElementRule::ShortArc,
+    ElementRule::ShortClothoid,
+];
+
 // Whether any of them is broken: a plan that breaks none is passed once.
 #[tactic(auto, unfolding(crate::specs::Any::any_broken))]
 pub fn is_any_broken(l: &Limits, e: &ElementAmong) -> bool
     ensures { result ≡ any_broken l.now e.now }
 {
-    LONGEST < e.end
-        || is_wrong_kind(e)
-        || clothoid::is_wrong_link(e)
-        || is_long_straight(l, &e.element)
-        || is_tight_arc(l, &e.element)
-        || is_short_arc(l, &e.element)
-        || clothoid::is_short_clothoid(l, e)
+    ELEMENT_RULES.iter().any(|rule| rule.is_broken(l, e))
 }

@@ -1,5 +1,6 @@
 -- The loop that looks for the first item that breaks a rule, for every list and rule: what is found from a place on is what is found at all.
 use Rattle.std.specs.Prelude.{◌≡◌, Bool, true, false, ℕ, suc, ◌+◌, ◌-◌, ◌<◌, ◌≤◌, None, Some}
+use Rattle.std.specs.Bool.{then_some}
 use Rattle.std.proofs.Math.Path.{sym}
 use Rattle.std.proofs.Common.{◌∙◌}
 use native.Mathlib.Omega.{arith}
@@ -48,3 +49,7 @@ nothing_1 bad h = sym (rw (h, first_from))
 pub found_1 : (bad : ℕ → Bool) → bad 0 ≡ true → Some 0 ≡ first_that bad 1
 unfolding first_that first_from
 found_1 bad h = sym (rw (h, first_from))
+
+pub then_1 : (bad : ℕ → Bool) (b : Bool) → b ≡ bad 0 → then_some b 0 ≡ first_that bad 1
+then_1 bad true e = found_1 bad (sym e)
+then_1 bad false e = nothing_1 bad (sym e)

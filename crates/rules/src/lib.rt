@@ -4,10 +4,10 @@
 
 mod walks;
 
-ghost use Rattle.std.specs.Prelude.{◌≡◌, ◌≤◌, ◌<◌, ℕ, true, length};
+ghost use Rattle.std.specs.Prelude.{◌≡◌, ◌≤◌, ◌<◌, ◌+◌, ℕ, true, length, slice_index_or};
 ghost use Rattle.std.specs.Iterator.{AlwaysYields, IsFinite};
 ghost use Rattle.road.specs.Base.{first_that};
-ghost use Rattle.road.specs.Exact.{tangent_start, total};
+ghost use Rattle.road.specs.Exact.{blank_crossfall, tangent_start, total};
 ghost use Rattle.laws_of_acceptance.specs.PlanOrder.{PlanOrder};
 ghost use Rattle.laws_of_acceptance.specs.PointsInOrder.{PointOrder};
 ghost use Rattle.road.specs.Rules.{first_broken, judged};
@@ -22,7 +22,8 @@ use road::{
     Alignment, Crossfall, Element, ElementRule, Fault, Limits, PointAmong, PointRule, Refusal,
     Rule, Tangent, TangentAmong, TangentRule,
 };
-use walks::{Beside, Elements, item_or};
+use superelevation::Pair;
+use walks::{Beside, Elements};
 
 // The rules in the order in which they are tried.
 pub const ORDER: [Rule; 16] = [
@@ -44,17 +45,22 @@ pub const ORDER: [Rule; 16] = [
     Rule::Superelevation,
 ];
 
-// T.
-pub fn plan_length(a: &Alignment) -> u64
-    ensures { result ≡ total a.now }
-{
-    a.elements().iter().map(|e| e.length as u64).sum()
-}
-
+// The length of the tangents together.
 fn profile_length(a: &Alignment) -> u64
     ensures { result ≡ tangent_start a.now (length a.now.tangents) }
 {
-    a.tangents().iter().map(|t| t.length as u64).sum()
+    a.tangents().iter().map(|t| u64::from(t.length)).sum()
+}
+
+// The crossfall point at a place, and the next.
+fn pair_at(points: &[Crossfall], place: usize) -> Pair
+    requires { place < usize.MAX }
+    ensures { result ≡ record { point = slice_index_or points.now place blank_crossfall; next = slice_index_or points.now (place + 1) blank_crossfall } }
+{
+    Pair {
+        point: points.get(place).copied().unwrap_or(Crossfall::BLANK),
+        next: points.get(place + 1).copied().unwrap_or(Crossfall::BLANK),
+    }
 }
 
 // The place of the first of a list's items that breaks a rule.
@@ -97,12 +103,12 @@ impl<'a> Judging<'a> {
         Judging {
             alignment,
             limits,
-            whole: plan_length(alignment),
+            whole: alignment.total(),
             plan_kept,
         }
     }
 
-    // 5, 7, 23, 8, 10, 11 and 12; within `judge` its loop has too few registers
+    // Refusals 5, 7, 23, 8, 10, 11 and 12, of an element. Within `judge` its loop has too few registers.
     #[inline(never)]
     fn first_element(&self, rule: ElementRule) -> Option<usize>
         ensures { result ≡ first_broken (ruled.Element rule) self.now.limits.now self.now.alignment.now }
@@ -114,18 +120,14 @@ impl<'a> Judging<'a> {
         first_broken(rule, self.limits, count, Elements::new(self.alignment))
     }
 
-    // 6
+    // Refusal 6: the tangents do not add up to T.
     fn other_total(&self) -> Option<usize>
         ensures { result ≡ first_broken ruled.OtherTotal self.now.limits.now self.now.alignment.now }
     {
-        if profile_length(self.alignment) == self.whole {
-            None
-        } else {
-            Some(0)
-        }
+        (profile_length(self.alignment) != self.whole).then_some(0)
     }
 
-    // 9, where the kinds run as they must: the nearest arc after a straight is the second element from it
+    // Refusal 9: a straight between bends of the same turn is too short. Where the kinds run as they must, the nearest arc after a straight is the second element from it.
     fn first_straight(&self) -> Option<usize>
         requires { PlanOrder self.now.alignment.now }
         ensures { result ≡ first_broken ruled.ShortStraight self.now.limits.now self.now.alignment.now }
@@ -133,7 +135,7 @@ impl<'a> Judging<'a> {
         let elements = self.alignment.elements();
         let mut before = Element::BLANK;
         for (i, e) in elements.iter().enumerate() {
-            let after = item_or(elements, i + 2, Element::BLANK);
+            let after = elements.get(i + 2).copied().unwrap_or(Element::BLANK);
             if item_rules::is_short_straight(self.limits, &before, e, &after) {
                 return Some(i);
             }
@@ -144,7 +146,7 @@ impl<'a> Judging<'a> {
         None
     }
 
-    // 13 to 15
+    // Refusals 13 to 15, of a tangent.
     fn first_tangent(&self, rule: TangentRule) -> Option<usize>
         ensures { result ≡ first_broken (ruled.Tangent rule) self.now.limits.now self.now.alignment.now }
     {
@@ -161,7 +163,7 @@ impl<'a> Judging<'a> {
         first_broken(rule, self.limits, tangents.len(), items)
     }
 
-    // 16 to 18
+    // Refusals 16 to 18, of a crossfall point.
     fn first_point(&self, rule: PointRule) -> Option<usize>
         ensures { result ≡ first_broken (ruled.Point rule) self.now.limits.now self.now.alignment.now }
     {
@@ -183,7 +185,8 @@ impl<'a> Judging<'a> {
         first_broken(rule, self.limits, count, items)
     }
 
-    // 19, where the points ascend: elements and pairs of points are passed together, each once, by a loop over two places that no `for` counts
+    // Refusal 19: on an arc a crossfall changes or is wrong. Where the points ascend, the pairs of points are passed along with the elements, each once.
+    // By two places: with `for` over the elements and a loop over the points within, judging takes 7 % more instructions.
     fn first_arc(&self) -> Option<usize>
         requires { PointOrder self.now.alignment.now }
         ensures { result ≡ first_broken ruled.Superelevation self.now.limits.now self.now.alignment.now }
@@ -195,24 +198,24 @@ impl<'a> Judging<'a> {
         let mut j: usize = 0;
         while i < elements.len() {
             let e = &elements[i];
-            let p = item_or(points, j, Crossfall::BLANK);
-            let q = item_or(points, j + 1, Crossfall::BLANK);
-            let high = low + e.length as u64;
-            if superelevation::is_wrong(self.limits, e, low, high, &p, &q) {
+            let span = low..low + u64::from(e.length);
+            let pair = pair_at(points, j);
+            if superelevation::is_wrong(self.limits, e, &span, &pair) {
                 return Some(i);
             }
             // to the next pair of points, if it begins before the element ends, else to the next element
-            if j + 2 < points.len() && q.station as u64 <= high {
+            if j + 2 < points.len() && u64::from(pair.next.station) <= span.end {
                 j += 1;
             } else {
-                low = high;
+                low = span.end;
                 i += 1;
             }
         }
         None
     }
 
-    // The place of the first item that breaks a rule, where the rules before it are kept.
+    // The place of the first item that breaks a rule, where the rules before it are kept. A `match` names the search of each rule: closures would all have to
+    // ask what two of them ask, that the kinds run as they must and the points ascend.
     fn first_of(&self, rule: Rule) -> Option<usize>
         requires { Tried rule self.now.limits.now self.now.alignment.now }
         ensures { result ≡ first_broken rule self.now.limits.now self.now.alignment.now }
@@ -233,12 +236,10 @@ pub fn judge(a: &Alignment, l: &Limits) -> Result<(), Refusal>
     ensures { as_verdict result ≡ judged l.now a.now }
 {
     let judging = Judging::new(a, l);
+    // a loop: with `find_map` tried, the proof did not close that its closure is called only where the rules before are kept
     for rule in &ORDER {
         if let Some(place) = judging.first_of(*rule) {
-            return Err(Refusal {
-                fault: Fault::Broken(*rule),
-                place,
-            });
+            return Err(Fault::Broken(*rule).at(place));
         }
     }
     Ok(())

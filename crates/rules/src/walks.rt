@@ -4,13 +4,6 @@ ghost use Rattle.std.specs.Prelude.{◌≡◌, ◌≤◌, ◌<◌, ◌+◌, ◌*
 
 use road::{Alignment, Element, ElementAmong};
 
-// An item of a list; past its end the blank one.
-pub fn item_or<T: Copy>(items: &[T], i: usize, blank: T) -> T
-    ensures { result ≡ slice_index_or items.now i blank }
-{
-    items.get(i).copied().unwrap_or(blank)
-}
-
 // The first item of a list, or the blank one, and the others.
 fn split_or<T: Copy>(items: &[T], blank: T) -> (T, &[T])
     ensures first { result.0 ≡ slice_index_or items.entry.now 0 blank }
@@ -76,7 +69,7 @@ impl Iterator for Elements<'_> {
         let among = ElementAmong {
             place: self.place,
             count: self.count,
-            end: self.end + self.element.length as u64,
+            end: self.end + u64::from(self.element.length),
             earlier: self.earlier,
             before: self.before,
             element: self.element,
@@ -128,7 +121,7 @@ impl<T: Copy> Iterator for Beside<'_, T> {
     fn next(&mut self) -> Option<(T, T, T)> {
         let (item, rest) = self.rest.split_first()?;
         let before = self.before;
-        let after = item_or(rest, 0, self.blank);
+        let after = rest.first().copied().unwrap_or(self.blank);
         self.rest = rest;
         self.before = *item;
         Some((before, *item, after))

@@ -9,7 +9,7 @@ ghost use Rattle.speed_marks.specs.Marks.{stands, marks, marks_answer};
 use road::{Alignment, Refusal};
 
 // The speeds in km/h, in the order of the marks.
-pub const SPEEDS: [u32; 7] = [40, 50, 60, 70, 80, 90, 100];
+pub const TRIED_SPEEDS: [u32; 7] = [40, 50, 60, 70, 80, 90, 100];
 
 // Whether a road passes at a speed.
 #[tactic(auto, unfolding(crate::specs::Marks::stands))]
@@ -25,7 +25,7 @@ fn marks_of(a: &Alignment) -> u32
     ensures { result ≡ marks a.now }
 {
     let mut set = 0;
-    for (bit, speed) in SPEEDS.iter().enumerate() {
+    for (bit, speed) in TRIED_SPEEDS.iter().enumerate() {
         set += u32::from(passes(a, *speed)) << bit;
     }
     set

@@ -10,7 +10,7 @@ pub first_of-requires : goal.first_of-requires
 first_of-requires c = tried c.loop-rule.invariant c.loop-rule-test.true
 
 pub returns-in-Some : goal.returns-in-Some
-returns-in-Some c = rw (sym c.new-judging.ensures.alignment, sym c.new-judging.ensures.limits) (trying_stop c.loop-rule.invariant c.loop-rule-test.true (sym c.first_of.ensures ∙ c.in-Some.is))
+returns-in-Some c = rw (c.at.ensures, sym c.new-judging.ensures.alignment, sym c.new-judging.ensures.limits) (trying_stop c.loop-rule.invariant c.loop-rule-test.true (sym c.first_of.ensures ∙ c.in-Some.is))
 
 pub loop-rule-preserved : goal.loop-rule-preserved
 loop-rule-preserved c = trying_on c.loop-rule.invariant c.loop-rule-test.true (sym c.first_of.ensures ∙ c.in_default.is)

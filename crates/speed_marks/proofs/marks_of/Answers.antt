@@ -1,7 +1,7 @@
 use Rattle.std.specs.Prelude.{◌≡◌, refl, Bool, true, false, ℕ, ◌+◌, ◌*◌, ◌^◌, ◌%◌, map, take, get_or}
 use Rattle.std.proofs.Common.{ap, ◌∙◌, arith}
 use Rattle.speed_marks.specs.Marks.{tried_speeds, stands, set_of, marks, bit}
-use Rattle.speed_marks.specs.Sets.{few, one_more, shifted}
+use Rattle.speed_marks.specs.Sets.{few_first, one_above, shifted}
 use Rattle.speed_marks.proofs.marks_of.Goals.{After-from}
 use Rattle.speed_marks.proofs.marks_of.Goals as goal
 
@@ -19,10 +19,10 @@ module _ (c : After-from) where
       go false e = c.from.ensures ∙ rw e
 
   placed : c.loop-bit.set + c.from.result * 2 ^ c.loop-bit.bit % 4294967296 ≡ set_of (take (c.loop-bit.bit + 1) (map (stands c.args.a.now) tried_speeds))
-  placed = rw (mark, shifted (stands c.args.a.now (get_or tried_speeds c.loop-bit.bit 0)) c.loop-bit.bit c.loop-bit-test.true, one_more (stands c.args.a.now) c.loop-bit.bit c.loop-bit-test.true, c.loop-bit.invariant)
+  placed = rw (mark, shifted (stands c.args.a.now (get_or tried_speeds c.loop-bit.bit 0)) c.loop-bit.bit c.loop-bit-test.true, one_above (stands c.args.a.now) c.loop-bit.bit c.loop-bit-test.true, c.loop-bit.invariant)
 
 pub overflow_add-set : goal.overflow_add-set
-overflow_add-set c = let d = (goal.at.overflow_add-set c).After-from in let e = placed d in let n = few (stands c.args.a.now) (c.loop-bit.bit + 1) (omega arith) in omega arith
+overflow_add-set c = let d = (goal.at.overflow_add-set c).After-from in let e = placed d in let n = few_first (stands c.args.a.now) (c.loop-bit.bit + 1) (omega arith) in omega arith
 
 pub loop-bit-preserved : goal.loop-bit-preserved
 loop-bit-preserved c = placed (goal.at.loop-bit-preserved c).After-from

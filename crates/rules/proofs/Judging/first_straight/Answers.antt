@@ -1,5 +1,5 @@
 -- The element and those beside it are the road's, and their test is the rule.
-use Rattle.std.specs.Prelude.{◌≡◌, refl, ℕ, suc, ◌+◌, ◌<◌, length, get_or}
+use Rattle.std.specs.Prelude.{◌≡◌, refl, ℕ, suc, ◌+◌, ◌<◌, length, get_or, Option, unwrap_or}
 use Rattle.std.proofs.Common.{sym, ap, ◌∙◌, arith, add-one}
 use Rattle.road.specs.Exact.{blank_element, element_of}
 use Rattle.road.specs.Rules.{first_arc, arc_before, road_test, first_broken}
@@ -21,10 +21,13 @@ module _ (c : After-is_short_straight) where
   here : get_or c.elements-elements.result.now c.loop-i.i blank_element ≡ element_of c.args.self.now.alignment.now c.loop-i.i
   here = rw c.elements-elements.ensures.items
 
-  after : c.item_or-after.result ≡ element_of c.args.self.now.alignment.now (suc (suc c.loop-i.i))
+  after : c.unwrap_or-after.result ≡ element_of c.args.self.now.alignment.now (suc (suc c.loop-i.i))
   after =
       let two : c.loop-i.i + 2 ≡ suc (suc c.loop-i.i) = omega arith in
-      c.item_or-after.ensures ∙ rw (two, c.elements-elements.ensures.items)
+      c.unwrap_or-after.ensures
+      ∙ ap (λ (o : Option Element). unwrap_or o blank_element) c.copied.ensures
+      ∙ c.get.ensures.lookup.4 (omega arith) blank_element
+      ∙ rw (two, c.elements-elements.ensures.items)
 
   test : c.is_short_straight.result ≡ (road_test rule.ShortStraight).broken c.args.self.now.limits.now c.args.self.now.alignment.now c.loop-i.i
   test =

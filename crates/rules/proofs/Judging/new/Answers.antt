@@ -18,7 +18,7 @@ invariant_of-result c =
     let l = c.args.limits.now in
     let all = YieldsList-from_first {A = ElementAmong} (λ x. x) elements_left {s = c.new.result} (items_at (element_among r) (length r.plan + 1)) c.new.ensures in
     record {
-      whole_is_total = c.plan_length.ensures;
+      whole_is_total = c.total.ensures;
       kept = λ e x i h.
           let any : c.any-plan_kept.result ≡ list_any (any_broken l) (items_at (element_among r) (length r.plan + 1)) = any_from_yields_List (any_broken l) c.any-plan_kept.new.self _ _ c.any-plan_kept.ensures.ran all (λ m b q k. search rules) in
           none-broken l (element_among r i) (none-passes (element_among r) (any_broken l) (sym any ∙ not-true c.any-plan_kept.result e) i (omega (arith, few_elements x (length r.plan)))) x;
