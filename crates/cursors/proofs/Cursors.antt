@@ -1,6 +1,8 @@
 -- How a cursor moves on along a list.
-use Rattle.std.proofs.Common.{◌≡◌, refl, sym, ap, ap₂, ◌∙◌, subst, ℕ, zero, suc, ◌+◌, ◌-◌, ◌<◌, ◌≤◌, length, get_or, ℤ, pos, ◌+ℤ◌, ◌*ℤ◌, arith, add-one}
+use Rattle.std.proofs.Common.{◌≡◌, refl, sym, ap, ap₂, ◌∙◌, subst, ℕ, zero, suc, ◌+◌, ◌-◌, ◌<◌, ◌≤◌, length, get_or, take, ℤ, pos, ◌+ℤ◌, ◌*ℤ◌, arith, add-one}
 use Rattle.std.proofs.Math.IntN.{+ℤ_idr}
+use Rattle.std.proofs.Math.ListN.{get_or-eq_default}
+use Rattle.std.proofs.lemmas.List.{length-take-le, get_or-take}
 use Rattle.road.specs.Base.{sum_of}
 use Rattle.road.specs.File.{Road}
 use Rattle.road.specs.Exact.{blank_element, element_of, tangent_of, point_of, element_start, tangent_start, rise}
@@ -19,7 +21,10 @@ use Rattle.segment_parts.specs.Profiles.{piece_later}
 use Rattle.segment.specs.declared.Curvature.{Curvature}
 use Rattle.segment_parts.specs.declared.TangentPlace.{TangentPlace}
 use Rattle.cursors.specs.declared.Place.{Place}
-use Rattle.cursors.specs.Places.{Reached, ElementFound, TangentReached, PlaceReached, PlaceFound}
+use Rattle.cursors.specs.declared.ElementPlace.{ElementPlace}
+use Rattle.cursors.specs.declared.ProfilePlace.{ProfilePlace}
+use Rattle.cursors.specs.declared.CrossfallPlace.{CrossfallPlace}
+use Rattle.cursors.specs.Places.{Reached, ElementReached, ElementFound, TangentReached, ProfileReached, ProfileFound, CrossfallReached, CrossfallFound, PlaceReached, PlaceFound}
 
 -- ---- one cursor: where the next item does not begin at or before x, the last one is found
 pub reached-ends : {f : ℕ → ℕ} {n x i : ℕ} → Reached f n x i → (suc i < n → x < f (suc i)) → Begun f n x i
@@ -48,10 +53,12 @@ module _ {r : Road} {x i begin : ℕ} {e : Element} (g : AtElement r x i begin e
   pub element_found : {c : Curvature} → (suc i < length r.plan → x < begin + e.length) → c ≡ curvature_at r i → ElementFound r (record { index = i; begin = begin; end = begin + e.length; curvature = c }) x
   element_found h c = let n = element-end in record { placed = record { begin = g.starts; end = n; curvature = c }; at = reached-ends g.at (λ u. let l = h u in omega arith) }
 
--- past the first element, the one before it
-pub before-item : (r : Road) (i : ℕ) → (i ≡ 0 → ⊥) → get_or r.plan (i - 1) blank_element ≡ element_before r i
-before-item r zero h = absurd (h refl)
-before-item r (suc i) h = ap (λ (k : ℕ). get_or r.plan k blank_element) (omega arith)
+-- the last of those before an element is the one before it
+pub before-item : (r : Road) (i : ℕ) → i < length r.plan → get_or (take i r.plan) (length (take i r.plan) - 1) blank_element ≡ element_before r i
+before-item r zero h = get_or-eq_default (take 0 r.plan) blank_element {n = length (take 0 r.plan) - 1} (omega (arith, length-take-le 0 r.plan (omega arith)))
+before-item r (suc i) h =
+    ap (λ (k : ℕ). get_or (take (suc i) r.plan) k blank_element) (let e : length (take (suc i) r.plan) - 1 ≡ i = omega (arith, length-take-le (suc i) r.plan (omega arith)) in e)
+    ∙ get_or-take (suc i) r.plan i blank_element (omega arith)
 
 -- ---- the profile
 -- a tangent reached, and its place
@@ -89,6 +96,16 @@ module _ {r : Road} {x : ℕ} {p : TangentPlace} {t : Tangent} (g : AtTangent r 
 pub record AtPoint (r : Road) (x i : ℕ) (d : Crossfall) : Type 0 where
   pub at : Reached (point_station r) (length r.crossfalls - 1) x i
   pub item : d ≡ point_of r (suc i)
+
+-- ---- before its end a place is still that of x
+pub element-stays : {r : Road} {p : ElementPlace} {x : ℕ} → ElementReached r p x → x < p.end → ElementFound r p x
+element-stays g h = record { placed = g.placed; at = reached-ends g.at (λ _. omega (arith, h, g.placed.end)) }
+
+pub piece_stays : {r : Road} {p : ProfilePlace} {x : ℕ} → ProfileReached r p x → x < p.piece.end → ProfileFound r p x
+piece_stays g h = record { tangent = g.tangent; piece = g.piece h }
+
+pub crossfall-stays : {r : Road} {p : CrossfallPlace} {x : ℕ} → CrossfallReached r p x → x < p.end → CrossfallFound r p x
+crossfall-stays g h = record { placed = g.placed; at = reached-ends g.at (λ _. omega (arith, h, g.placed.end)) }
 
 -- ---- the first of each list
 pub element-first : (r : Road) → element_start r 0 ≡ 0

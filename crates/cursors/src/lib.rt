@@ -5,7 +5,7 @@
 ghost use Rattle.std.specs.Prelude.{◌≡◌, ℕ, ◌-◌, ◌≤◌, length};
 ghost use Rattle.road.specs.Exact.{element_start, total};
 ghost use Rattle.segment_parts.specs.Sides.{point_station};
-ghost use Rattle.cursors.specs.Places.{Reached, ElementReached, ElementFound, TangentReached, ProfileReached, ProfileFound, CrossfallReached, CrossfallFound, PlaceReached, PlaceFound};
+ghost use Rattle.cursors.specs.Places.{Reached, ElementFound, TangentReached, ProfileFound, CrossfallFound, PlaceReached, PlaceFound};
 ghost use Rattle.cursors.specs.View.{Viewed};
 
 use accepted_road::AcceptedRoad;
@@ -37,7 +37,8 @@ pub struct CrossfallPlace {
     pub sides: Sides,
 }
 
-// Where a station lies on the three lists.
+// Where a station lies on the three lists. That it has reached a station stands in clauses: it is of a place and a later station, which no struct holds
+// together.
 #[derive(Clone, Copy)]
 pub struct Place {
     pub element: ElementPlace,
@@ -54,7 +55,8 @@ pub struct View {
 }
 
 // ---- the three cursors, which only move forward
-// They go on by index: a place keeps the index of its item, and a chain over the items would have to count beside them.
+// They go on by index: a place keeps the index of its item, and `skip` from there would leave what goes on with it to a closure. Each keeps something
+// else of its list: where an element begins; where a tangent begins, with its height; of a point its index alone.
 
 // The last element that begins at or before x, from one that does.
 fn element_from(road: &AcceptedRoad, first: usize, start: u64, x: u64) -> ElementPlace
@@ -66,22 +68,18 @@ fn element_from(road: &AcceptedRoad, first: usize, start: u64, x: u64) -> Elemen
     let mut i = first;
     let mut begin = start;
     let mut e = elements[i];
-    while i + 1 < elements.len() && begin + e.length as u64 <= x {
-        begin += e.length as u64;
+    while i + 1 < elements.len() && begin + u64::from(e.length) <= x {
+        begin += u64::from(e.length);
         i += 1;
         e = elements[i];
     }
-    let before = if i == 0 {
-        Element::BLANK
-    } else {
-        elements[i - 1]
-    };
+    let before = elements[..i].last().copied().unwrap_or(Element::BLANK);
     let after = elements.get(i + 1).copied().unwrap_or(Element::BLANK);
     let curvature = segment_parts::curvature_of(before, e, after);
     ElementPlace {
         index: i,
         begin,
-        end: begin + e.length as u64,
+        end: begin + u64::from(e.length),
         curvature,
     }
 }
@@ -94,15 +92,15 @@ fn profile_from(road: &AcceptedRoad, first: TangentPlace, x: u64) -> ProfilePlac
     let tangents = road.alignment().tangents();
     let mut tangent = first;
     let mut t = tangents[tangent.index];
-    while tangent.index + 1 < tangents.len() && tangent.begin + t.length as u64 <= x {
-        tangent = tangent.next(t);
+    while tangent.index + 1 < tangents.len() && tangent.begin + u64::from(t.length) <= x {
+        tangent = tangent.of(t).next();
         t = tangents[tangent.index];
     }
     let next = tangents
         .get(tangent.index + 1)
         .copied()
         .unwrap_or(Tangent::BLANK);
-    let piece = tangent.piece(t, next, x);
+    let piece = tangent.of(t).piece(next, x);
     ProfilePlace { tangent, piece }
 }
 
@@ -114,48 +112,15 @@ fn crossfall_from(road: &AcceptedRoad, first: usize, x: u64) -> CrossfallPlace
     let points = road.alignment().crossfalls();
     let mut i = first;
     let mut next = points[i + 1];
-    while i + 2 < points.len() && next.station as u64 <= x {
+    while i + 2 < points.len() && u64::from(next.station) <= x {
         i += 1;
         next = points[i + 1];
     }
     CrossfallPlace {
         index: i,
-        end: next.station as u64,
+        end: u64::from(next.station),
         sides: segment_parts::sides_of(points[i], next),
     }
-}
-
-// The element of x, from one at or before it.
-fn element_on(road: &AcceptedRoad, p: ElementPlace, x: u64) -> ElementPlace
-    requires { ElementReached road.now p x }
-    ensures { ElementFound road.now result x }
-{
-    if x < p.end {
-        return p;
-    }
-    element_from(road, p.index, p.begin, x)
-}
-
-// The piece of the profile that has x, from one at or before it.
-fn profile_on(road: &AcceptedRoad, p: ProfilePlace, x: u64) -> ProfilePlace
-    requires { ProfileReached road.now p x }
-    ensures { ProfileFound road.now result x }
-{
-    if x < p.piece.end {
-        return p;
-    }
-    profile_from(road, p.tangent, x)
-}
-
-// The crossfall point of x, from one at or before it.
-fn crossfall_on(road: &AcceptedRoad, p: CrossfallPlace, x: u64) -> CrossfallPlace
-    requires { CrossfallReached road.now p x }
-    ensures { CrossfallFound road.now result x }
-{
-    if x < p.end {
-        return p;
-    }
-    crossfall_from(road, p.index, x)
 }
 
 // ---- the place of a station
@@ -175,15 +140,30 @@ pub fn start(road: &AcceptedRoad) -> Place
     }
 }
 
-// The place of x, from one at or before it.
+// The place of x, from one at or before it: on each list it moves on where its own end is reached.
 pub fn moved(road: &AcceptedRoad, p: Place, x: u64) -> Place
     requires { PlaceReached road.now p x }
     ensures { PlaceFound road.now result x }
 {
+    let element = if x < p.element.end {
+        p.element
+    } else {
+        element_from(road, p.element.index, p.element.begin, x)
+    };
+    let profile = if x < p.profile.piece.end {
+        p.profile
+    } else {
+        profile_from(road, p.profile.tangent, x)
+    };
+    let crossfall = if x < p.crossfall.end {
+        p.crossfall
+    } else {
+        crossfall_from(road, p.crossfall.index, x)
+    };
     Place {
-        element: element_on(road, p.element, x),
-        profile: profile_on(road, p.profile, x),
-        crossfall: crossfall_on(road, p.crossfall, x),
+        element,
+        profile,
+        crossfall,
     }
 }
 
@@ -200,11 +180,15 @@ pub fn view_at(road: &AcceptedRoad, p: Place, x: u64) -> View
     let e = place.element;
     let piece = place.profile.piece;
     let c = place.crossfall;
-    let joint = segment_parts::joint_of(piece.end, e.end, c.end, x);
-    let segment = segment_parts::segment_of(piece, c.sides, e.curvature, e.begin, lane);
     View {
         place,
-        joint,
-        segment,
+        joint: segment_parts::joint_of(piece.end, e.end, c.end, x),
+        segment: Segment {
+            piece,
+            sides: c.sides,
+            lane: i64::from(lane),
+            element: e.begin as i64,
+            curvature: e.curvature,
+        },
     }
 }

@@ -1,4 +1,4 @@
-// Request A.5: the rows of a list of pegs, in one walk along the three lists of an accepted road.
+// The rows of a list of pegs, in one walk along the three lists of an accepted road.
 
 #![tactic(auto)]
 
@@ -25,7 +25,7 @@ fn put_rows(road: &AcceptedRoad, stations: &[u64], out: &mut [u8]) -> usize
         if view.joint <= station {
             view = cursors::view_at(road, view.place, station);
         }
-        bytes += view.segment.put_line(station, &mut out[bytes..]);
+        bytes += view.segment.at(station).put_line(&mut out[bytes..]);
     }
     bytes
 }

@@ -13,11 +13,21 @@ use Rattle.integers.specs.Rounding.{nearest_size, round, rounded, round_of_size}
 use Rattle.integers.proofs.RoundingLaws.{rounded-value, round-size}
 use Rattle.integers.specs.Width.{divisor, above_zero}
 use Rattle.segment.specs.Segment.{value_of}
-use Rattle.segment.specs.Sizes.{OnEgg, EggSizes}
+use Rattle.segment.specs.Sizes.{OnEgg, egg_over, egg_under}
 use Rattle.segment.specs.declared.Curvature.{Curvature}
 use Rattle.segment.proofs.Signs.{as_size, left-turn, right-turn}
 
--- ---- its size, from the sizes of the turn and the radii
+-- ---- its size, from the sizes of the turn, of the radii at its start and at its end, and of its length
+pub record EggSizes (turn first second length past : ℕ) : Type 0 where
+  pub turn-high : turn ≤ 1000000000
+  pub first-low : 0 < first
+  pub first-high : first ≤ 1000000
+  pub second-low : 0 < second
+  pub second-high : second ≤ 1000000
+  pub length-low : 0 < length
+  pub length_high : length ≤ 10000000
+  pub inside : past ≤ length
+
 module _ {turn first second length past : ℕ} (p : EggSizes turn first second length past) where
   abbrev from_start : ℕ
   from_start = turn * (length - past)
@@ -105,6 +115,18 @@ rounded-even turn first second length past f g h i =
     rounded-value (subst (λ (n : ℕ). (turn ÷ first) ×ᶠ ((pos n -ℤ pos past) ÷ n) +ᶠ (turn ÷ second) ×ᶠ (pos past ÷ n) ≈ᶠ (turn *ℤ pos (second * (length - past) + first * past)) ÷ (first * second * n)) e
     (value turn first second (length - past) past f g (omega arith)))
 
+pub egg-sizes : {c : Curvature} {past : ℕ} → OnEgg c (pos past) → EggSizes (nat_abs c.start.turn) (nat_abs c.start.radius) (nat_abs c.end.radius) (nat_abs c.length) past
+egg-sizes {c} p = record {
+  turn-high = p.start-size.turn;
+  first-low = above_zero c.start.radius p.start-size.radius-low;
+  first-high = p.start-high;
+  second-low = above_zero c.end.radius p.end-size.radius-low;
+  second-high = p.end-high;
+  length-low = above_zero c.length p.length-low;
+  length_high = p.length_high;
+  inside = p.inside;
+}
+
 module _ {c : Curvature} {past : ℤ} (p : OnEgg c past) where
   abbrev turn : ℕ
   turn = nat_abs c.start.turn
@@ -127,22 +149,16 @@ module _ {c : Curvature} {past : ℤ} (p : OnEgg c past) where
   abbrev under : ℕ
   under = first * second * l
 
-  pub radii : (0 < first) × (first ≤ 1000000) × (0 < second) × (second ≤ 1000000)
-  radii = (above_zero c.start.radius p.start-size.radius-low, p.start-high, above_zero c.end.radius p.end-size.radius-low, p.end-high)
-
   -- the same turn at both ends, over numbers without their signs
   evenly : rounded (value_of c.start ×ᶠ ((c.length -ℤ past) ÷ l) +ᶠ value_of c.end ×ᶠ (past ÷ l)) ≡ round (c.start.turn *ℤ pos over) under
   evenly =
       ap (λ (t : ℤ). rounded (value_of c.start ×ᶠ ((c.length -ℤ past) ÷ l) +ᶠ (t ÷ second) ×ᶠ (past ÷ l))) (sym p.same_turn)
       ∙ ap₂ (λ (m n : ℤ). rounded (value_of c.start ×ᶠ ((m -ℤ n) ÷ l) +ᶠ (c.start.turn ÷ second) ×ᶠ (n ÷ l))) (divisor c.length p.length-low) (as_size p.past-low)
-      ∙ rounded-even c.start.turn first second l d radii.0 radii.2 (above_zero c.length p.length-low) p.inside
+      ∙ rounded-even c.start.turn first second l d (above_zero c.start.radius p.start-size.radius-low) (above_zero c.end.radius p.end-size.radius-low) (above_zero c.length p.length-low) p.inside
 
-  module _ {k r : ℕ} (e : k ≡ turn) (h : r ≡ nearest_size (k * over) under) where
-    answer : pos r ≡ pos (nearest_size (turn * over) under)
-    answer = ap pos (h ∙ ap (λ (n : ℕ). nearest_size (n * over) under) e)
-
+  module _ {r : ℕ} (h : r ≡ nearest_size (egg_over c d) (egg_under c)) where
     pub to_left : c.start.turn <ℤ pos 0 → pos 0 -ℤ pos r ≡ rounded (value_of c.start ×ᶠ ((c.length -ℤ past) ÷ l) +ᶠ value_of c.end ×ᶠ (past ÷ l))
-    to_left g = ap (λ (n : ℤ). pos 0 -ℤ n) answer ∙ left-turn c.start.turn over under g ∙ sym evenly
+    to_left g = ap (λ (n : ℕ). pos 0 -ℤ pos n) h ∙ left-turn c.start.turn over under g ∙ sym evenly
 
     pub to_right : pos 0 ≤ℤ c.start.turn → pos r ≡ rounded (value_of c.start ×ᶠ ((c.length -ℤ past) ÷ l) +ᶠ value_of c.end ×ᶠ (past ÷ l))
-    to_right g = answer ∙ right-turn c.start.turn over under g ∙ sym evenly
+    to_right g = ap pos h ∙ right-turn c.start.turn over under g ∙ sym evenly

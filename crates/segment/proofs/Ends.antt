@@ -15,6 +15,8 @@ use Rattle.integers.specs.Values.{positive-mul}
 use Rattle.integers.specs.Rounding.{round, rounded}
 use Rattle.integers.proofs.RoundingLaws.{rounded-value}
 use Rattle.integers.specs.Width.{fits64, divisor, above_zero, Doubles}
+use Rattle.std.proofs.Math.Logic.{∥∥₁_elim}
+use Rattle.std.proofs.Props.{props}
 use Rattle.segment.specs.Segment.{SizedEnd, Sound, Joined, from_zero, to_zero, same-arc, egg, past, value_of, curvature_in}
 use Rattle.segment.specs.Sizes.{OfEnd, OnEgg}
 use Rattle.segment.specs.Short.{remaining-small}
@@ -116,7 +118,7 @@ module _ {s : Segment} {x : ℕ} (p : Sound s x) where
   -- ---- neither end is a straight's
   module _ (a : s.curvature.start.turn ≡ pos 0 → ⊥) (b : s.curvature.end.turn ≡ pos 0 → ⊥) where
     pub arc-between : s.curvature.start.radius ≡ s.curvature.end.radius → rounded (value_of s.curvature.start) ≡ rounded (curvature_in s x)
-    arc-between r = go p.joined
+    arc-between r = ∥∥₁_elim p.joined (Prim.hlevel props) go
       where
         go : Joined s.curvature.start s.curvature.end → rounded (value_of s.curvature.start) ≡ rounded (curvature_in s x)
         go (from_zero e) = absurd (a e)
@@ -125,7 +127,7 @@ module _ {s : Segment} {x : ℕ} (p : Sound s x) where
         go (egg e _ _) = arc (ap₂ (λ (t n : ℤ). record { turn = t; radius = n }) e r)
 
     pub egg-between : (s.curvature.start.radius ≡ s.curvature.end.radius → ⊥) → OnEgg s.curvature d
-    egg-between r = go p.joined
+    egg-between r = ∥∥₁_elim p.joined (Prim.hlevel props) go
       where
         go : Joined s.curvature.start s.curvature.end → OnEgg s.curvature d
         go (from_zero e) = absurd (a e)

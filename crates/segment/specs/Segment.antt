@@ -114,7 +114,7 @@ pub record Sound (s : Segment) (x : ℕ) : Type 0 where
   pub length_high : nat_abs s.curvature.length ≤ 10000000
   pub start-size : SizedEnd s.curvature.start
   pub end-size : SizedEnd s.curvature.end
-  pub joined : Joined s.curvature.start s.curvature.end
+  pub joined : ∥ Joined s.curvature.start s.curvature.end ∥₁
 
 -- the segment says what the exact road says at a station
 pub record Shows (r : Road) (s : Segment) (x : ℕ) : Type 0 where

@@ -1,5 +1,5 @@
 -- What the functions of a segment ask of the numbers that they are given, so that everything fits 64 bits.
-use Rattle.std.specs.Prelude.{◌≡◌, ℕ, ◌*◌, ◌≤◌, ◌<◌, ℤ, pos, ◌+ℤ◌, ◌*ℤ◌, nat_abs, ◌≤ℤ◌, ◌<ℤ◌}
+use Rattle.std.specs.Prelude.{◌≡◌, ℕ, ◌+◌, ◌-◌, ◌*◌, ◌≤◌, ℤ, pos, ◌+ℤ◌, ◌*ℤ◌, nat_abs, ◌≤ℤ◌, ◌<ℤ◌}
 use Rattle.integers.specs.Fraction.{◌÷◌}
 use Rattle.integers.specs.Rounding.{rounded}
 use Rattle.segment.specs.Segment.{SizedEnd}
@@ -35,16 +35,12 @@ pub record OnEgg (c : Curvature) (past : ℤ) : Type 0 where
   pub past-low : pos 0 ≤ℤ past
   pub inside : nat_abs past ≤ nat_abs c.length
 
--- the same without signs, of the radii at its start and at its end
-pub record EggSizes (turn first second length past : ℕ) : Type 0 where
-  pub turn-high : turn ≤ 1000000000
-  pub first-low : 0 < first
-  pub first-high : first ≤ 1000000
-  pub second-low : 0 < second
-  pub second-high : second ≤ 1000000
-  pub length-low : 0 < length
-  pub length_high : length ≤ 10000000
-  pub inside : past ≤ length
+-- the size of its curvature there: turn × (R2 (L − x) + R1 x) / (R1 R2 L)
+abbrev pub egg_over : Curvature → (past : ℕ) → ℕ
+egg_over c past = nat_abs c.start.turn * (nat_abs c.end.radius * (nat_abs c.length - past) + nat_abs c.start.radius * past)
+
+abbrev pub egg_under : Curvature → ℕ
+egg_under c = nat_abs c.start.radius * nat_abs c.end.radius * nat_abs c.length
 
 -- a crossfall of over / span on a lane
 pub record OfLane (over span width : ℤ) : Type 0 where

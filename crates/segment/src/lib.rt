@@ -7,7 +7,7 @@ ghost use Rattle.integers.specs.Fraction.{◌÷◌, ◌+ᶠ◌, ◌×ᶠ◌};
 ghost use Rattle.integers.specs.Rounding.{nearest_size, rounded};
 ghost use Rattle.decimal.specs.Written.{Wrote};
 ghost use Rattle.segment.specs.Segment.{Sound, past, value_of, height_in, grade_in, curvature_in, numbers_in, list_of, line_in};
-ghost use Rattle.segment.specs.Sizes.{InCurve, OfEnd, OnEgg, EggSizes, OfLane, OnSide, lane_of};
+ghost use Rattle.segment.specs.Sizes.{InCurve, OfEnd, OnEgg, egg_over, egg_under, OfLane, OnSide, lane_of};
 
 // The straight part of a tangent or a vertical curve.
 #[derive(Clone, Copy)]
@@ -17,7 +17,8 @@ pub struct Piece {
     // the height there, in millionths of a millimetre, and the grade there
     pub height: i64,
     pub grade: i64,
-    // the change of grade and the half length of the vertical curve; 0 and 0 on a tangent
+    // the change of grade and the half length of the vertical curve; 0 and 0 on a tangent, as the file has a half length of 0 where a vertex has no curve:
+    // an Option would be made from that 0 for each piece
     pub change: i64,
     pub half: i64,
     // the station where the piece ends
@@ -44,6 +45,7 @@ pub struct Sides {
 pub const LINE_BYTES: usize = 96;
 
 // The curvature at an end of an element, turn / radius: of an arc 10⁹ with the radius' sign over the radius' size, of a straight 0 over 1.
+// An element is its two ends, whatever it is: an enum of straight, arc, egg and both clothoids would name in five cases what two tests of 0 tell.
 #[derive(Clone, Copy)]
 pub struct End {
     pub turn: i64,
@@ -174,40 +176,41 @@ impl End {
     }
 }
 
-// The size of an egg's curvature, of its radii at start and end. Its fraction does not fit; what each end gives does, and so do both rests over one denominator.
-fn egg_size(turn: u64, first: u64, second: u64, length: u64, past: u64) -> u64
-    requires { EggSizes turn first second length past }
-    ensures value { result ≡ nearest_size (turn * (second * (length - past) + first * past)) (first * second * length) }
-    ensures most { result ≤ 1000000000 }
-{
-    let from_start = turn * (length - past);
-    let from_end = turn * past;
-    let under_start = first * length;
-    let under_end = second * length;
-    integers::nearest_sum(
-        from_start / under_start + from_end / under_end,
-        from_start % under_start * second,
-        from_end % under_end * first,
-        first * under_end,
-    )
-}
-
 impl Curvature {
+    // The size of an egg's curvature. Its fraction does not fit; what each end gives does, and so do both rests over one denominator.
+    fn egg_size(&self, past: u64) -> u64
+        requires { OnEgg self.now (pos past) }
+        ensures value { result ≡ nearest_size (egg_over self.now past) (egg_under self.now) }
+        ensures most { result ≤ 1000000000 }
+    {
+        let turn = self.start.turn.unsigned_abs();
+        let first = self.start.radius.unsigned_abs();
+        let second = self.end.radius.unsigned_abs();
+        let length = self.length.unsigned_abs();
+        let from_start = turn * (length - past);
+        let from_end = turn * past;
+        let under_start = first * length;
+        let under_end = second * length;
+        integers::nearest_sum(
+            from_start / under_start + from_end / under_end,
+            from_start % under_start * second,
+            from_end % under_end * first,
+            first * under_end,
+        )
+    }
+
     // The curvature on an egg, evenly from one end's to the other's: the sign is taken off, the size rounded, and the sign put back.
     fn egg(&self, past: i64) -> i64
         requires { OnEgg self.now past }
         ensures { result ≡ rounded (value_of self.now.start ×ᶠ ((self.now.length -ℤ past) ÷ nat_abs self.now.length) +ᶠ value_of self.now.end ×ᶠ (past ÷ nat_abs self.now.length)) }
     {
-        let turn = self.start.turn.unsigned_abs();
-        let first = self.start.radius as u64;
-        let second = self.end.radius as u64;
-        let size = egg_size(turn, first, second, self.length as u64, past as u64) as i64;
+        let size = self.egg_size(past.unsigned_abs()) as i64;
         if self.start.turn < 0 { -size } else { size }
     }
 }
 
 impl Numbers {
-    // In the order of a line.
+    // In the order of a line, which `From` would not say.
     fn in_order(self) -> [i64; 8]
         ensures { result ≡ list_of self }
     {
@@ -224,14 +227,35 @@ impl Numbers {
     }
 }
 
+// A station on a segment.
+#[derive(Clone, Copy)]
+pub struct OnSegment<'a> {
+    pub segment: &'a Segment,
+    pub station: u64,
+    ghost sound: { Sound segment.now station },
+}
+
 impl Segment {
-    // The height at a station.
-    pub fn height_at(&self, x: u64) -> i64
-        requires { Sound self.now x }
-        ensures { result ≡ rounded (height_in self.now x) }
+    // A station here.
+    pub fn at(&self, station: u64) -> OnSegment<'_>
+        requires { Sound self.now station }
+        ensures segment { result.segment.now ≡ self.now }
+        ensures station { result.station ≡ station }
     {
-        let piece = self.piece;
-        let u = distance(piece.from, x);
+        OnSegment {
+            segment: self,
+            station,
+        }
+    }
+}
+
+impl<'a> OnSegment<'a> {
+    // The height.
+    pub fn height(self) -> i64
+        ensures { result ≡ rounded (height_in self.entry.segment.now self.entry.station) }
+    {
+        let piece = self.segment.piece;
+        let u = distance(piece.from, self.station);
         let line = along(piece.height, piece.grade, u);
         if piece.half == 0 {
             integers::round_div(line, 1_000_000)
@@ -240,26 +264,24 @@ impl Segment {
         }
     }
 
-    // The grade at a station.
-    pub fn grade_at(&self, x: u64) -> i64
-        requires { Sound self.now x }
-        ensures { result ≡ rounded (grade_in self.now x) }
+    // The grade.
+    pub fn grade(self) -> i64
+        ensures { result ≡ rounded (grade_in self.entry.segment.now self.entry.station) }
     {
-        let piece = self.piece;
+        let piece = self.segment.piece;
         if piece.half == 0 {
             piece.grade
         } else {
-            piece.curve_grade(distance(piece.from, x))
+            piece.curve_grade(distance(piece.from, self.station))
         }
     }
 
-    // The curvature at a station.
-    pub fn curvature_at(&self, x: u64) -> i64
-        requires { Sound self.now x }
-        ensures { result ≡ rounded (curvature_in self.now x) }
+    // The curvature.
+    pub fn curvature(self) -> i64
+        ensures { result ≡ rounded (curvature_in self.entry.segment.now self.entry.station) }
     {
-        let curvature = self.curvature;
-        let past = distance(self.element, x);
+        let curvature = self.segment.curvature;
+        let past = distance(self.segment.element, self.station);
         if curvature.start.turn == 0 {
             // a straight needs no division
             if curvature.end.turn == 0 {
@@ -279,37 +301,36 @@ impl Segment {
         curvature.egg(past)
     }
 
-    // The printed numbers of a station.
-    pub fn numbers_at(&self, x: u64) -> Numbers
-        requires { Sound self.now x }
-        ensures { result ≡ numbers_in self.now x }
+    // The printed numbers.
+    pub fn numbers(self) -> Numbers
+        ensures { result ≡ numbers_in self.entry.segment.now self.entry.station }
     {
-        let sides = self.sides;
-        let u = distance(sides.point, x);
-        let left = sides.lane_at(sides.left, self.lane, u);
-        let right = sides.lane_at(sides.right, self.lane, u);
-        let height = self.height_at(x);
+        let sides = self.segment.sides;
+        let lane = self.segment.lane;
+        let u = distance(sides.point, self.station);
+        let left = sides.lane_at(sides.left, lane, u);
+        let right = sides.lane_at(sides.right, lane, u);
+        let height = self.height();
         Numbers {
-            station: x as i64,
+            station: self.station as i64,
             height,
-            grade: self.grade_at(x),
+            grade: self.grade(),
             left: left.crossfall,
             right: right.crossfall,
             left_edge: height + left.drop,
             right_edge: height + right.drop,
-            curvature: self.curvature_at(x),
+            curvature: self.curvature(),
         }
     }
 
-    // Writes the line of a station, and returns its length.
-    pub fn put_line(&self, x: u64, out: &mut [u8]) -> usize
-        requires sound { Sound self.now x }
-        requires room { 96 ≤ length out.old }
-        ensures wrote { Wrote out.old out.new 0 (line_in self.now x) result }
+    // Writes the line, and returns its length.
+    pub fn put_line(self, out: &mut [u8]) -> usize
+        requires { 96 ≤ length out.old }
+        ensures wrote { Wrote out.old out.new 0 (line_in self.entry.segment.now self.entry.station) result }
         ensures most { result ≤ 96 }
     {
         let mut end = 0;
-        for v in self.numbers_at(x).in_order() {
+        for v in self.numbers().in_order() {
             end += decimal::put_field(&mut out[end..], v, b' ');
         }
         out[end - 1] = b'\n';

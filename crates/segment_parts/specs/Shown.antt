@@ -130,7 +130,7 @@ module _ {r : Road} (G : Guaranteed r) where
           length_high = rw C.length l.high;
           start-size = C.start;
           end-size = C.end;
-          joined = C.joined;
+          joined = ∣ C.joined ∣₁;
         }
 
     curved-there : curvature r y ≈ᶠ curvature_in s y

@@ -47,7 +47,7 @@ next_place p t = record {
 }
 
 -- the numbers of a place and its tangent are those of an accepted road
-pub record Sized (p : TangentPlace) (t : Tangent) : Type 0 where
+pub record SizedPlace (p : TangentPlace) (t : Tangent) : Type 0 where
   pub index : p.index < 100
   pub begin : p.begin ≤ 100000000
   pub height : nat_abs p.height ≤ 15000000000000
@@ -90,7 +90,7 @@ module _ {r : Road} (G : Guaranteed r) where
   grade-before-small zero h = omega arith
   grade-before-small (suc i) h = G.grade i (omega arith)
 
-  pub sized : {p : TangentPlace} (t : Tangent) → TangentPlaced r p → t ≡ tangent_of r p.index → p.index < length r.tangents → Sized p t
+  pub sized : {p : TangentPlace} (t : Tangent) → TangentPlaced r p → t ≡ tangent_of r p.index → p.index < length r.tangents → SizedPlace p t
   sized {p} t g q h =
       let i = p.index in
       let b = half-before-small i h in
@@ -100,7 +100,7 @@ module _ {r : Road} (G : Guaranteed r) where
       let most = G.tangent-count.high in
       let begin = g.begin in
       let half = g.half in
-      subst (Sized p) (sym q) (record {
+      subst (SizedPlace p) (sym q) (record {
         index = omega arith;
         begin = omega arith;
         height = subst (λ (z : ℤ). nat_abs z ≤ 15000000000000) (sym g.height) (omega (arith, height-small i (omega arith)));

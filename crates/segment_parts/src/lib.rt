@@ -1,16 +1,16 @@
-// The parts of a segment, each made of the items that it needs, so that a cursor over any list calls these.
+// The parts of a segment, each made of the items that it needs.
 
 #![tactic(auto)]
 
 ghost use Rattle.std.specs.Prelude.{◌≡◌, ◌≤◌, pos, nat_abs, ◌-ℤ◌, ◌*ℤ◌};
-ghost use Rattle.segment_parts.specs.Tangents.{first_place, next_place, Sized};
+ghost use Rattle.segment_parts.specs.Tangents.{first_place, next_place, SizedPlace};
 ghost use Rattle.segment_parts.specs.Pieces.{curve_from, curve_before, curve_after, straight_part, PieceFrom};
 ghost use Rattle.segment_parts.specs.Sides.{ramp_of, sides_of};
 ghost use Rattle.segment_parts.specs.Ends.{end_of, curvature_of};
-ghost use Rattle.segment_parts.specs.Segments.{segment_of, joint_of};
+ghost use Rattle.segment_parts.specs.Segments.{joint_of};
 
 use road::{Crossfall, Element, Tangent};
-use segment::{Curvature, End, Piece, Ramp, Segment, Sides};
+use segment::{Curvature, End, Piece, Ramp, Sides};
 
 // The place of a tangent: which it is, where it begins, the height there in millionths of a millimetre, and the half length and the grade before it.
 #[derive(Clone, Copy)]
@@ -22,6 +22,14 @@ pub struct TangentPlace {
     pub grade_before: i32,
 }
 
+// A tangent at its place.
+#[derive(Clone, Copy)]
+pub struct PlacedTangent {
+    pub place: TangentPlace,
+    pub tangent: Tangent,
+    ghost sized: { SizedPlace place tangent },
+}
+
 // ---- the profile
 
 // What a grade rises on a length, in millionths.
@@ -31,7 +39,7 @@ fn rise(grade: i32, length: u32) -> i64
     i64::from(grade) * i64::from(length)
 }
 
-// A vertical curve between two grades, from a station and a height on.
+// A vertical curve between two grades, from a station and a height on. Five parameters: a struct of them would be the piece itself.
 fn curve_from(from: u64, height: i64, first: i32, second: i32, half: u32) -> Piece
     requires { from ≤ 200000000 }
     ensures { result ≡ curve_from from height first second half }
@@ -61,80 +69,94 @@ impl TangentPlace {
         }
     }
 
-    // The place of the tangent after t, which stands here.
-    pub fn next(self, t: Tangent) -> Self
-        requires { Sized self t }
-        ensures { result ≡ next_place self t }
+    // The tangent that stands here.
+    pub fn of(self, tangent: Tangent) -> PlacedTangent
+        requires { SizedPlace self tangent }
+        ensures place { result.place ≡ self }
+        ensures tangent { result.tangent ≡ tangent }
     {
+        PlacedTangent {
+            place: self,
+            tangent,
+        }
+    }
+}
+
+impl PlacedTangent {
+    // The place of the tangent after it.
+    pub fn next(self) -> TangentPlace
+        ensures { result ≡ next_place self.place self.tangent }
+    {
+        let t = self.tangent;
         TangentPlace {
-            index: self.index + 1,
-            begin: self.begin + u64::from(t.length),
-            height: self.height + rise(t.grade, t.length),
+            index: self.place.index + 1,
+            begin: self.place.begin + u64::from(t.length),
+            height: self.place.height + rise(t.grade, t.length),
             half_before: t.half,
             grade_before: t.grade,
         }
     }
 
-    // The vertical curve at the start of the tangent.
-    fn curve_before(self, t: Tangent) -> Piece
-        requires { Sized self t }
-        ensures { result ≡ curve_before self t }
+    // The vertical curve at its start.
+    fn curve_before(self) -> Piece
+        ensures { result ≡ curve_before self.place self.tangent }
     {
-        let half = self.half_before;
-        let grade = self.grade_before;
+        let half = self.place.half_before;
+        let grade = self.place.grade_before;
         let back = rise(grade, half);
         curve_from(
-            self.begin - u64::from(half),
-            self.height - back,
+            self.place.begin - u64::from(half),
+            self.place.height - back,
             grade,
-            t.grade,
+            self.tangent.grade,
             half,
         )
     }
 
-    // The straight part of the tangent.
-    fn straight_part(self, t: Tangent) -> Piece
-        requires { Sized self t }
-        ensures { result ≡ straight_part self t }
+    // Its straight part.
+    fn straight_part(self) -> Piece
+        ensures { result ≡ straight_part self.place self.tangent }
     {
+        let t = self.tangent;
         Piece {
-            from: self.begin as i64,
-            height: self.height,
+            from: self.place.begin as i64,
+            height: self.place.height,
             grade: i64::from(t.grade),
             change: 0,
             half: 0,
-            end: self.begin + u64::from(t.length - t.half),
+            end: self.place.begin + u64::from(t.length - t.half),
         }
     }
 
-    // The vertical curve at the end of the tangent.
-    fn curve_after(self, t: Tangent, next: Tangent) -> Piece
-        requires { Sized self t }
-        ensures { result ≡ curve_after self t next }
+    // The vertical curve at its end.
+    fn curve_after(self, next: Tangent) -> Piece
+        ensures { result ≡ curve_after self.place self.tangent next }
     {
+        let t = self.tangent;
         let far = t.length - t.half;
         let ahead = rise(t.grade, far);
         curve_from(
-            self.begin + u64::from(far),
-            self.height + ahead,
+            self.place.begin + u64::from(far),
+            self.place.height + ahead,
             t.grade,
             next.grade,
             t.half,
         )
     }
 
-    // The piece of the profile that has x, where the tangent t here is the last that begins at or before x.
-    pub fn piece(self, t: Tangent, next: Tangent, x: u64) -> Piece
-        requires { Sized self t }
-        ensures { PieceFrom self t next x result }
+    // The piece of the profile that has x, where the tangent is the last that begins at or before x.
+    pub fn piece(self, next: Tangent, x: u64) -> Piece
+        ensures { PieceFrom self.place self.tangent next x result }
     {
-        if x < self.begin + u64::from(self.half_before) {
-            return self.curve_before(t);
+        let begin = self.place.begin;
+        let t = self.tangent;
+        if x < begin + u64::from(self.place.half_before) {
+            return self.curve_before();
         }
-        if x < self.begin + u64::from(t.length - t.half) || t.half == 0 {
-            return self.straight_part(t);
+        if x < begin + u64::from(t.length - t.half) || t.half == 0 {
+            return self.straight_part();
         }
-        self.curve_after(t, next)
+        self.curve_after(next)
     }
 }
 
@@ -201,9 +223,9 @@ pub fn curvature_of(before: Element, e: Element, after: Element) -> Curvature
     }
 }
 
-// ---- the segment and its joint
+// ---- the next joint
 
-// The least of the three ends that lie beyond x; where the element ends at x, the road does, and the joint stands past T.
+// The first station behind x that the segment there does not serve: the least of the three ends. Where the element ends at x, x is T, and that is T + 1.
 pub fn joint_of(piece: u64, element: u64, point: u64, x: u64) -> u64
     requires { x ≤ 100000000 }
     ensures { result ≡ joint_of piece element point x }
@@ -212,24 +234,4 @@ pub fn joint_of(piece: u64, element: u64, point: u64, x: u64) -> u64
         return x + 1;
     }
     piece.min(element.min(point))
-}
-
-// The segment of a piece of the profile, a pair of crossfall points and an element that begins at a station.
-pub fn segment_of(
-    piece: Piece,
-    sides: Sides,
-    curvature: Curvature,
-    element: u64,
-    lane: u32,
-) -> Segment
-    requires { element ≤ 100000000 }
-    ensures { result ≡ segment_of piece sides curvature element lane }
-{
-    Segment {
-        piece,
-        sides,
-        lane: i64::from(lane),
-        element: element as i64,
-        curvature,
-    }
 }

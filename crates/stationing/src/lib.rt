@@ -1,4 +1,4 @@
-// The two public routines: the row of a station, and the next listed station.
+// The routines of one station: its row, and the next listed station.
 
 #![tactic(auto)]
 
@@ -18,7 +18,7 @@ fn put_row(road: &AcceptedRoad, station: u64, line: &mut [u8]) -> usize
     ensures line_after { line.new ≡ overwrite (line_at road.now station) line.old }
 {
     let view = cursors::view_at(road, cursors::start(road), station);
-    view.segment.put_line(station, line)
+    view.segment.at(station).put_line(line)
 }
 
 // The row of a station of an accepted road; refusals 20 and 21.

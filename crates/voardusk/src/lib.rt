@@ -14,7 +14,7 @@ ghost use Rattle.voardusk.specs.Codes.{returned_number, answer_number, list_retu
 
 use road::Refusal;
 
-// Stands for "there is no station": all 64 bits set. No road is so long.
+// Stands for "there is no station": all 64 bits set. No road is so long. A number and no Option, since a C caller reads it.
 pub const NO_STATION: u64 = u64::MAX;
 
 // What a call returns: 0 with the value in `answer`, or the refusal's number with its place there.
@@ -56,6 +56,7 @@ pub extern "C" fn voardusk_next_station(file: &[u8], station: u64, answer: &mut 
 }
 
 // As many whole rows from a station on as the buffer has room for: how many bytes in `answer`, the station to go on from in `next`, or NO_STATION.
+// Five parameters, as a C caller hands them over.
 #[unsafe(no_mangle)]
 pub extern "C" fn voardusk_list(
     file: &[u8],

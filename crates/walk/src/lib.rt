@@ -4,6 +4,7 @@
 
 ghost use Rattle.std.specs.Prelude.{◌≡◌, ◌≤◌, length};
 ghost use mathlib.Core.List.{Memᴰ};
+ghost use Rattle.laws_of_acceptance.specs.Guaranteed.{Guaranteed};
 ghost use Rattle.road.specs.Listed.{listed};
 ghost use Rattle.road.specs.Machine.{overwrite};
 ghost use Rattle.cursors.specs.Places.{PlaceReached};
@@ -20,7 +21,8 @@ pub struct Chunk {
     pub next: Option<u64>,
 }
 
-// A walk along the listed stations: where it stands, the next multiple of step, and the segment there with its joint.
+// A walk along the listed stations: where it stands, the next multiple of step, and the segment there with its joint. That a station is listed is asked
+// of a number: a type for it would be made anew at each station.
 #[derive(Clone, Copy)]
 pub struct Walk {
     pub station: u64,
@@ -81,7 +83,7 @@ fn rows_on(road: &AcceptedRoad, first: u64, out: &mut [u8]) -> Chunk
     let step = road.step();
     let mut walk = Walk::begin(road, first);
     let mut bytes: usize = 0;
-    // the walk moves itself, by multiples and joints: no list is passed that a `for` could name
+    // the walk moves itself, by multiples and joints: an iterator would have to copy its segment for each row, since it cannot lend its own
     while walk.station <= road.total() {
         while walk.station < walk.view.joint {
             let room = out.len() - bytes;
@@ -91,7 +93,8 @@ fn rows_on(road: &AcceptedRoad, first: u64, out: &mut [u8]) -> Chunk
                     next: Some(walk.station),
                 };
             }
-            bytes += walk.view.segment.put_line(walk.station, &mut out[bytes..]);
+            let here = walk.view.segment.at(walk.station);
+            bytes += here.put_line(&mut out[bytes..]);
             walk.move_on(step);
         }
         walk.next_segment(road);
@@ -101,6 +104,7 @@ fn rows_on(road: &AcceptedRoad, first: u64, out: &mut [u8]) -> Chunk
 
 // The rows of the listed stations that are not below a station, as many whole rows as the buffer has room for.
 pub fn rows_from(road: &AcceptedRoad, from: u64, out: &mut [u8]) -> Chunk
+    ensures guaranteed { Guaranteed road.now }
     ensures value { result ≡ answer (chunk road.now from (length out.old)) }
     ensures out_after { out.new ≡ overwrite (chunk road.now from (length out.old)).text out.old }
 {

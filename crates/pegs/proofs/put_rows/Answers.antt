@@ -17,8 +17,8 @@ loop-station-init c = writing_starts c.args.stations.now c.args.out.now c.view_a
 pub returns : goal.returns
 returns c = let w = overwritten (writing_done c.loop-station.invariant c.loop-station-test.false) in record { value = w.0; out_after = w.1 }
 
-pub put_line-bytes-requires-clause-sound : goal.put_line-bytes-requires-clause-sound
-put_line-bytes-requires-clause-sound c =
+pub at-requires : goal.at-requires
+at-requires c =
     let viewed : Viewed c.args.road.now c.if-view-station.view (peg_at c.args.stations.now c.loop-station.station-index) =
     elim c.if-view-station.branch [
       | then-view-station w ↦ rw w.view-is w.view_at-view-then-view-station.ensures
@@ -33,4 +33,4 @@ loop-station-preserved c =
       | then-view-station w ↦ rw w.view-is w.view_at-view-then-view-station.ensures
       | else-view-station w ↦ rw w.view-is ((c.loop-station.invariant.serves c.loop-station-test.true).seen w.if-view-station.false)
     ] in
-    writing_more c.loop-station.invariant c.requires.room c.requires.good c.loop-station-test.true viewed (wrote-part (omega arith) c.put_line-bytes.ensures.wrote) (omega (arith, c.put_line-bytes.ensures.most))
+    writing_more c.loop-station.invariant c.requires.room c.requires.good c.loop-station-test.true viewed (wrote-part (omega arith) (rw (c.at.ensures.segment, c.at.ensures.station) at c.put_line-bytes.ensures.wrote)) (omega (arith, c.put_line-bytes.ensures.most))

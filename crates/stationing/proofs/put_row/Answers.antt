@@ -9,11 +9,11 @@ use Rattle.stationing.proofs.put_row.Goals as goal
 pub view_at-view-requires-clause-reached : goal.view_at-view-requires-clause-reached
 view_at-view-requires-clause-reached c = c.start.ensures c.args.station
 
-pub put_line-requires-clause-sound : goal.put_line-requires-clause-sound
-put_line-requires-clause-sound c = (viewed-shows c.view_at-view.ensures c.requires.on_road).sound
+pub at-requires : goal.at-requires
+at-requires c = (viewed-shows c.view_at-view.ensures c.requires.on_road).sound
 
 pub returns : goal.returns
 returns c =
     let e = line-shows (viewed-shows c.view_at-view.ensures c.requires.on_road) in
-    let w = overwritten c.put_line.ensures.wrote in
+    let w = overwritten (rw (c.at.ensures.segment, c.at.ensures.station) at c.put_line.ensures.wrote) in
     record { value = w.0 ∙ ap length e; line_after = w.1 ∙ ap (λ (l : List ℕ). overwrite l c.args.line.now) e }

@@ -19,8 +19,8 @@ returns-then-room-lt-LINE_BYTES-clause-out_after c =
     let k = c.loop-walk-2.invariant.walking in
     (full c.step-step.ensures.guaranteed k c.loop-walk-2-test.true (omega (arith, going-length k.going))).1
 
-pub put_line-bytes-requires-clause-sound : goal.put_line-bytes-requires-clause-sound
-put_line-bytes-requires-clause-sound c = (shown_here c.loop-walk-2.invariant.walking.stands c.loop-walk-2-test.true).sound
+pub at-here-requires : goal.at-here-requires
+at-here-requires c = (shown_here c.loop-walk-2.invariant.walking.stands c.loop-walk-2-test.true).sound
 
 -- one row written, one station on
 pub loop-walk-2-preserved : goal.loop-walk-2-preserved
@@ -28,7 +28,7 @@ loop-walk-2-preserved c =
     let k = c.loop-walk-2.invariant.walking in
     let on = c.move_on.ensures ∙ ap (λ (n : ℕ). moved n c.loop-walk-2.walk) c.step-step.ensures.step in
     record {
-      walking = (walked c.step-step.ensures.guaranteed k c.loop-walk-2-test.true (omega (arith, going-length k.going)) (wrote-part (omega arith) c.put_line-bytes.ensures.wrote) (omega (arith, c.put_line-bytes.ensures.most)) on).0;
+      walking = (walked c.step-step.ensures.guaranteed k c.loop-walk-2-test.true (omega (arith, going-length k.going)) (wrote-part (omega arith) (rw (c.at-here.ensures.segment, c.at-here.ensures.station) at c.put_line-bytes.ensures.wrote)) (omega (arith, c.put_line-bytes.ensures.most)) on).0;
       ahead = rw on c.loop-walk-2.invariant.ahead;
     }
 

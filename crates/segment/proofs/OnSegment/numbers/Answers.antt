@@ -12,7 +12,7 @@ use Rattle.segment.specs.Sizes.{lane_of}
 use Rattle.segment.specs.declared.Segment.{Segment}
 use Rattle.segment.specs.declared.Lane.{Lane}
 use Rattle.segment.proofs.Fields as f
-use Rattle.segment.proofs.Segment.numbers_at.Goals as goal
+use Rattle.segment.proofs.OnSegment.numbers.Goals as goal
 
 -- what the distance is, and what the two sides are there
 module _ {s : Segment} {x : ℕ} (p : Sound s x) {u : ℤ} (small : SFits w64 u) (e : u ≡ past (to_z w64 (of_z w64 s.sides.point)) x) where
@@ -31,39 +31,39 @@ module _ {s : Segment} {x : ℕ} (p : Sound s x) {u : ℤ} (small : SFits w64 u)
 
 pub lane_at-left-requires : goal.lane_at-left-requires
 lane_at-left-requires c =
-    let p = c.requires in
+    let p = c.args.self.sound in
     let k : SFits w64 c.distance-u.result = record { sfits = c.distance-u.type_inv } in
     simp (to_z-of_z, f.lane-fits p, k) (f.on_side p (u-is p k c.distance-u.ensures) left)
 
 pub lane_at-right-requires : goal.lane_at-right-requires
 lane_at-right-requires c =
-    let p = c.requires in
+    let p = c.args.self.sound in
     let k : SFits w64 c.distance-u.result = record { sfits = c.distance-u.type_inv } in
     simp (to_z-of_z, f.lane-fits p, k) (f.on_side p (u-is p k c.distance-u.ensures) right)
 
 pub overflow_add-result : goal.overflow_add-result
 overflow_add-result c =
-    let p = c.requires in
+    let p = c.args.self.sound in
     let k : SFits w64 c.distance-u.result = record { sfits = c.distance-u.type_inv } in
-    let h : SFits w64 c.height_at-height.result = record { sfits = c.height_at-height.type_inv } in
+    let h : SFits w64 c.height-height.result = record { sfits = c.height-height.type_inv } in
     let drop = side-drop p k c.distance-u.ensures left c.lane_at-left.ensures in
-    simp (to_z-of_z, h, f.drop-fits p left drop) (f.edge-fits p left c.height_at-height.ensures drop)
+    simp (to_z-of_z, h, f.drop-fits p left drop) (f.edge-fits p left c.height-height.ensures drop)
 
 pub overflow_add-result-2 : goal.overflow_add-result-2
 overflow_add-result-2 c =
-    let p = c.requires in
+    let p = c.args.self.sound in
     let k : SFits w64 c.distance-u.result = record { sfits = c.distance-u.type_inv } in
-    let h : SFits w64 c.height_at-height.result = record { sfits = c.height_at-height.type_inv } in
+    let h : SFits w64 c.height-height.result = record { sfits = c.height-height.type_inv } in
     let drop = side-drop p k c.distance-u.ensures right c.lane_at-right.ensures in
-    simp (to_z-of_z, h, f.drop-fits p right drop) (f.edge-fits p right c.height_at-height.ensures drop)
+    simp (to_z-of_z, h, f.drop-fits p right drop) (f.edge-fits p right c.height-height.ensures drop)
 
 pub returns : goal.returns
 returns c =
-    let p = c.requires in
+    let p = c.args.self.sound in
     let k : SFits w64 c.distance-u.result = record { sfits = c.distance-u.type_inv } in
-    let h : SFits w64 c.height_at-height.result = record { sfits = c.height_at-height.type_inv } in
-    let i : SFits w64 c.grade_at.result = record { sfits = c.grade_at.type_inv } in
-    let j : SFits w64 c.curvature_at.result = record { sfits = c.curvature_at.type_inv } in
+    let h : SFits w64 c.height-height.result = record { sfits = c.height-height.type_inv } in
+    let i : SFits w64 c.grade.result = record { sfits = c.grade.type_inv } in
+    let j : SFits w64 c.curvature.result = record { sfits = c.curvature.type_inv } in
     let lc = side-crossfall p k c.distance-u.ensures left c.lane_at-left.ensures in
     let ld = side-drop p k c.distance-u.ensures left c.lane_at-left.ensures in
     let rc = side-crossfall p k c.distance-u.ensures right c.lane_at-right.ensures in
@@ -78,7 +78,7 @@ returns c =
       f.crossfall-fits p right rc,
       f.drop-fits p left ld,
       f.drop-fits p right rd,
-      f.edge-fits p left c.height_at-height.ensures ld,
-      f.edge-fits p right c.height_at-height.ensures rd,
+      f.edge-fits p left c.height-height.ensures ld,
+      f.edge-fits p right c.height-height.ensures rd,
     )
-    (f.numbers_are p c.height_at-height.ensures c.grade_at.ensures lc rc ld rd c.curvature_at.ensures)
+    (f.numbers_are p c.height-height.ensures c.grade.ensures lc rc ld rd c.curvature.ensures)
