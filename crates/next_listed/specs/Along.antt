@@ -1,6 +1,10 @@
 -- The listed stations of the items of a list, along the list.
-use Rattle.std.specs.Prelude.{◌≡◌, refl, List, [], ◌∷◌, ◌++◌, map, take, length, get_or, ℕ, zero, suc, ◌+◌, ◌-◌, eqb, if◌then◌else◌, Option, None, false}
-use Rattle.std.proofs.Common.{sym, ap, ap₂, ◌∙◌, arith, add-zero, ne_eqb}
+use Rattle.std.specs.Prelude.{◌≡◌, refl, List, [], ◌∷◌, ◌++◌, map, flat_map, take, length, get_or, ℕ, zero, suc, ◌+◌, ◌-◌, ◌<◌, eqb, if◌then◌else◌, Option, None, false}
+use Rattle.std.specs.List.{scan}
+use Rattle.std.specs.Iterator.{AlwaysYields}
+use Rattle.std.proofs.lemmas.Iterator.{YieldsList}
+use Rattle.std.proofs.lemmas.Iterator.Consumers.{YieldsList-from_shown}
+use Rattle.std.proofs.Common.{subst, Some, sym, ap, ap₂, ◌∙◌, arith, add-zero, ne_eqb}
 use Rattle.std.proofs.Math.Nat.{sub-zero}
 use Rattle.road.specs.Base.{count_from, joined, sum_of}
 use Rattle.road.specs.File.{Road}
@@ -21,10 +25,33 @@ abbrev pub ends_from : ℕ → List Element → List ℕ
 ends_from start [] = []
 ends_from start (e ∷ es) = (start + e.length) ∷ ends_from (start + e.length) es
 
+-- as an iterator with a running end gives them
+pub ends-scanned : (start : ℕ) (es : List Element) → scan (λ (a : ℕ) (e : Element). a + e.length) (λ (a : ℕ) (e : Element). a + e.length) start es ≡ ends_from start es
+ends-scanned start [] = refl
+ends-scanned start (e ∷ es) = ap (λ (l : List ℕ). (start + e.length) ∷ l) (ends-scanned (start + e.length) es)
+
 -- both ends of the curve at the end of each tangent, the first of which begins at a station
 abbrev pub curves_from : ℕ → List Tangent → List ℕ
 curves_from start [] = []
 curves_from start (t ∷ ts) = let vertex = start + t.length in (vertex - t.half) ∷ (vertex + t.half) ∷ curves_from vertex ts
+
+-- as an iterator with a running vertex gives them
+pub curves-scanned : (start : ℕ) (ts : List Tangent)
+    → flat_map (λ (y : List ℕ). y) (scan (λ (a : ℕ) (t : Tangent). a + t.length) (λ (a : ℕ) (t : Tangent). (a + t.length - t.half) ∷ (a + t.length + t.half) ∷ []) start ts) ≡ curves_from start ts
+curves-scanned start [] = refl
+curves-scanned start (t ∷ ts) = ap (λ (l : List ℕ). (start + t.length - t.half) ∷ (start + t.length + t.half) ∷ l) (curves-scanned (start + t.length) ts)
+
+-- what an iterator gives, as another list
+pub gives : {S : Type 0} {steps : S → Option ℕ → S → Type 0} {s : S} {xs ys : List ℕ} → xs ≡ ys → YieldsList steps (λ x. x) s xs → AlwaysYields steps (λ x. x) s ys
+gives {steps = steps} {s} e all = subst (λ (l : List ℕ). AlwaysYields steps (λ x. x) s l) e all.runs
+
+-- the items of an iterator that shows what it has left
+pub shows : {S : Type 0} (steps : S → Option ℕ → S → Type 0) (shown : S → List ℕ) → ((s t : S) → steps s None t → length (shown s) ≡ 0) → ((s : S) (x : ℕ) (t : S) → steps s (Some x) t → shown s ≡ x ∷ shown t)
+    → (s : S) {xs : List ℕ} → shown s ≡ xs → YieldsList steps (λ x. x) s xs
+shows steps shown none some s e = subst (λ (l : List ℕ). YieldsList steps (λ x. x) s l) e (YieldsList-from_shown steps (λ x. x) shown none some s)
+
+pub two_fit : (n : ℕ) → n ≡ 2 → n < 18446744073709551616
+two_fit n e = omega arith
 
 -- ---- they are those of the definition
 

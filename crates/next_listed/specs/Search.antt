@@ -40,6 +40,9 @@ pub added-append : (s : ℕ) (xs ys : List ℕ) (o : Option ℕ) → added s (xs
 added-append s [] ys o = refl
 added-append s (x ∷ xs) ys o = added-append s xs ys (counted s x o)
 
+pub after-append : (xs ys : List ℕ) (q : Search) → after (xs ++ ys) q ≡ after ys (after xs q)
+after-append xs ys q = ap (λ (o : Option ℕ). record { from = q.from; least = o }) (added-append q.from xs ys q.least)
+
 -- what is counted first may be counted last
 counted_last : (s x : ℕ) (xs : List ℕ) (o : Option ℕ) → added s xs (counted s x o) ≡ counted s x (added s xs o)
 counted_last s x [] o = refl

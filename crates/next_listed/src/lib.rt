@@ -2,13 +2,16 @@
 
 #![tactic(auto)]
 
-ghost use Rattle.std.specs.Prelude.{◌≡◌, [], ◌∷◌, ◌<◌, ◌≤◌, length};
+ghost use Rattle.std.specs.Prelude.{◌≡◌, ℕ, List, [], ◌∷◌, ◌<◌, ◌≤◌, length};
+ghost use Rattle.std.specs.Iterator.{AlwaysYields, IsFinite};
+ghost use Rattle.laws_of_acceptance.specs.Guaranteed.{Guaranteed};
+ghost use Rattle.road.specs.Exact.{total};
 ghost use Rattle.road.specs.Listed.{multiples, next_listed};
 ghost use Rattle.next_listed.specs.Search.{after};
 ghost use Rattle.next_listed.specs.Along.{point_stations, ends_from, curves_from};
 
 use accepted_road::AcceptedRoad;
-use road::{Crossfall, Element, Tangent};
+use road::{Alignment, Crossfall, Element, Tangent};
 
 // A search for the least station that is not below one.
 #[derive(Drop)]
@@ -29,17 +32,27 @@ impl Search {
 
     // The multiples of step below T.
     #[tactic(auto, using(crate::specs::Multiples::multiples_past, crate::specs::Multiples::multiples_none, crate::specs::Multiples::multiples_some))]
-    fn add_multiples(&mut self, step: u64, whole: u64)
+    fn add_multiples(&mut self, step: u32, whole: u64)
         requires step_positive { 0 < step }
-        requires step_small { step ≤ 100000 }
-        requires whole_small { whole ≤ 100000000 }
+        requires whole_small { whole ≤ 100_000_000 }
         ensures { self.new ≡ after (multiples step whole) self.old }
     {
         if self.from < whole {
-            let multiple = self.from.next_multiple_of(step);
+            let multiple = self.from.next_multiple_of(u64::from(step));
             if multiple < whole {
                 self.add(multiple);
             }
+        }
+    }
+
+    // Stations in turn.
+    fn add_all<I: Iterator<Item = u64> + Drop>(&mut self, stations: I)
+        requires can { I.can_next stations }
+        requires ends { IsFinite (I.remaining stations) }
+        ensures { (listed : List ℕ) → AlwaysYields I.next_gives (λ x. x) stations listed → self.new ≡ after listed self.old }
+    {
+        for station in stations {
+            self.add(station);
         }
     }
 
@@ -48,11 +61,12 @@ impl Search {
         requires { length elements.now ≤ 200 }
         ensures { self.new ≡ after (ends_from 0 elements.now) self.old }
     {
-        let mut end: u64 = 0;
-        for e in elements {
-            end += u64::from(e.length);
-            self.add(end);
-        }
+        self.add_all(
+            elements.iter().scan(0, |end: &mut u64, e| {
+                *end += u64::from(e.length);
+                Some(*end)
+            }),
+        );
     }
 
     // Both ends of the curve at the end of each tangent: its vertex, where the half length is 0.
@@ -60,40 +74,47 @@ impl Search {
         requires { length tangents.now ≤ 100 }
         ensures { self.new ≡ after (curves_from 0 tangents.now) self.old }
     {
-        let mut vertex: u64 = 0;
-        for t in tangents {
+        let curves = tangents.iter().scan(0, |vertex: &mut u64, t| {
             let half = u64::from(t.half);
-            vertex += u64::from(t.length);
-            self.add(vertex.saturating_sub(half));
-            self.add(vertex + half);
-        }
+            *vertex += u64::from(t.length);
+            Some([vertex.saturating_sub(half), *vertex + half])
+        });
+        self.add_all(curves.flatten());
     }
 
     // The stations of the crossfall points.
     fn add_points(&mut self, points: &[Crossfall])
         ensures { self.new ≡ after (point_stations points.now) self.old }
     {
-        for p in points {
-            self.add(u64::from(p.station));
-        }
+        self.add_all(points.iter().map(|p| u64::from(p.station)));
     }
 }
 
-// The least listed station not below s, or that there is none.
-pub fn next_in(road: &AcceptedRoad, s: u64) -> Option<u64>
-    ensures { result ≡ next_listed road.now s }
+// The least listed station of an alignment not below s, or that there is none.
+pub fn least_listed(alignment: &Alignment, whole: u64, s: u64) -> Option<u64>
+    requires step_positive { 0 < alignment.now.head.step }
+    requires total_is { whole ≡ total alignment.now }
+    requires total_small { whole ≤ 100_000_000 }
+    ensures { result ≡ next_listed alignment.now s }
 {
-    let alignment = road.alignment();
     let tangents = alignment.tangents();
     let mut search = Search {
         from: s,
         least: None,
     };
     search.add(0);
-    search.add(road.total());
-    search.add_multiples(road.step(), road.total());
+    search.add(whole);
+    search.add_multiples(alignment.head().step, whole);
     search.add_ends(alignment.elements());
-    search.add_curves(&tangents[..tangents.len() - 1]);
+    search.add_curves(&tangents[..tangents.len().saturating_sub(1)]);
     search.add_points(alignment.crossfalls());
     search.least
+}
+
+// The least listed station of an accepted road not below s, or that there is none.
+pub fn next_in(road: &AcceptedRoad, s: u64) -> Option<u64>
+    ensures value { result ≡ next_listed road.now s }
+    ensures guaranteed { Guaranteed road.now }
+{
+    least_listed(road.alignment(), road.total(), s)
 }

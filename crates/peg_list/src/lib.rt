@@ -1,4 +1,4 @@
-// Request A.5: the first bad peg of a list.
+// The first bad peg of a list: pegs do not fall, are at most 2,000, and none lies beyond T.
 
 #![tactic(auto)]
 
