@@ -1,4 +1,4 @@
-// Reads and judges the file on standard input many times, its step changed by one between calls, and prints how often it was accepted: for measuring.
+// Reads and judges the file on standard input many times, a bit of it turned between calls, and prints how often it was accepted: for measuring.
 
 #![tactic(auto)]
 
@@ -9,7 +9,7 @@ fn main(rt: HostRuntime) {
     let length = streams::read_full(&mut rt.stdin(), &mut space);
     if 3 <= length {
         let often = many_calls::sum_of(&mut space[..length], CALLS, |file, _| {
-            u64::from(acceptance::accept(file).is_ok())
+            acceptance::accept(file).is_ok().then_some(1)
         });
         let _ = println!(rt; "{often}");
     }

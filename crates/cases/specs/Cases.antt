@@ -1,5 +1,5 @@
 -- The cases of a test program's input: the number at its front, and the part that stands there after its length.
-use Rattle.std.specs.Prelude.{List, ℕ, take, drop, Option, Some, None}
+use Rattle.std.specs.Prelude.{List, [], ℕ, take, drop, Option, Some, None}
 use Rattle.file_numbers.specs.Reading.{Got, got, refused}
 use Rattle.file_numbers.specs.Number.{number}
 
@@ -20,3 +20,12 @@ divided None = None
 -- the part at the front, after its length and as far as the input goes, and the bytes behind it
 abbrev pub first_part : List ℕ → Option (List ℕ × List ℕ)
 first_part s = divided (first_number s)
+
+-- the same, where there is no number 0, an empty part, and nothing behind them
+abbrev pub number_or_0 : Option (ℕ × List ℕ) → ℕ × List ℕ
+number_or_0 (Some p) = p
+number_or_0 None = (0, [])
+
+abbrev pub part_or_empty : Option (List ℕ × List ℕ) → List ℕ × List ℕ
+part_or_empty (Some p) = p
+part_or_empty None = ([], [])

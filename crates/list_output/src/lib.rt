@@ -6,7 +6,6 @@ ghost use Rattle.std.specs.Prelude.{◌≡◌, [], ◌∷◌, ◌++◌, ◌≤�
 ghost use Rattle.std.specs.Io.KnownBytes.{Appends};
 ghost use Rattle.decimal.specs.Decimal.{digits};
 ghost use Rattle.decimal.specs.Written.{Wrote};
-ghost use Rattle.laws_of_acceptance.specs.Guaranteed.{Guaranteed};
 ghost use Rattle.road.specs.Faults.{fault_number};
 ghost use Rattle.road.specs.Listing.{refusal_line, list_of};
 ghost use Rattle.list_output.specs.Parts.{lines_from, Begins};
@@ -26,17 +25,18 @@ fn put_number(line: &mut [u8], n: u64, after: u8) -> usize
     decimal::put_field(line, n, after)
 }
 
-// "R", number and place of a refusal over the first bytes of the line, and its length.
-pub fn put_refusal(line: &mut [u8], refusal: Refusal) -> usize
+// "R", number and place of a refusal over the first bytes of the line, and its length: of any number and place, not of a `Refusal` alone. By hand: std's
+// formatting says nothing of what it wrote before an error.
+pub fn put_refusal(line: &mut [u8], number: u32, place: usize) -> usize
     requires { 64 ≤ length line.old }
-    ensures wrote { Wrote line.old line.new 0 (refusal_line (fault_number refusal.fault) refusal.place) result }
+    ensures wrote { Wrote line.old line.new 0 (refusal_line number place) result }
     ensures most { result ≤ 64 }
 {
     line[0] = b'R';
     line[1] = b' ';
     let mut end = 2;
-    end += put_number(&mut line[end..], u64::from(refusal.fault.number()), b' ');
-    end += put_number(&mut line[end..], refusal.place as u64, b'\n');
+    end += put_number(&mut line[end..], u64::from(number), b' ');
+    end += put_number(&mut line[end..], place as u64, b'\n');
     end
 }
 
@@ -47,14 +47,14 @@ fn print_refusal<W: Write>(output: &mut W, refusal: Refusal) -> io::Result<()>
 {
     // std's formatting says nothing of what it wrote before an error, and not that it has none: the line is put into a buffer and written from there
     let mut line = [0u8; 64];
-    let end = put_refusal(&mut line, refusal);
+    let end = put_refusal(&mut line, refusal.fault.number(), refusal.place);
     streams::write_whole(output, &line[..end])
 }
 
-// The rows of an accepted road, part by part, as many at a time as the buffer has room for.
-fn print_rows<W: Write>(output: &mut W, road: &AcceptedRoad, out: &mut [u8]) -> io::Result<()>
-    requires guaranteed { Guaranteed road.now }
-    requires room { 96 ≤ length out.old }
+// Prints the rows of an accepted road part by part, as many at a time as the buffer has room for, up to the end or to a write that fails. Room for one row is
+// asked of a slice: a type for it would be made by each of its three callers.
+pub fn print_rows<W: Write>(output: &mut W, road: &AcceptedRoad, out: &mut [u8]) -> io::Result<()>
+    requires { 96 ≤ length out.old }
     ensures whole { OnOk result (Appends (W.contents output.old) (W.contents output.new) (lines_from road.now (Some 0))) }
     ensures beginning { Begins (lines_from road.now (Some 0)) (W.contents output.old) (W.contents output.new) }
 {

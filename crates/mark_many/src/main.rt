@@ -1,52 +1,63 @@
-// Makes 20,000 calls of one kind on a file, its step changed by one between calls, and prints the sum of their answers: for measuring.
+// Makes 20,000 calls of one kind on a file, a bit of it turned between calls, and prints the sum of their answers: for measuring.
 // Standard input has a letter and then the file: r reads it, m reads it and gives its marks, j judges its road at each of the seven speeds.
 
 #![tactic(auto)]
 
 use road::Alignment;
-use speed_marks::SPEEDS;
+use speed_marks::TRIED_SPEEDS;
 
 const CALLS: u64 = 20000;
 
-// How many elements were read; 0 beside a refusal.
-fn read(file: &[u8]) -> u64 {
-    alignment::read(file).map_or(0, |a| a.elements().len() as u64)
+// What is measured; any other letter gives marks.
+enum Measured {
+    Read,
+    Mark,
+    Judge,
 }
 
-// The marks; 0 beside a refusal.
-fn marked(file: &[u8]) -> u64 {
-    speed_marks::marks(file).map_or(0, u64::from)
-}
-
-// At how many of the seven speeds a road passes.
-fn judged(a: &Alignment) -> u64 {
-    let contract = a.head().contract;
-    SPEEDS
-        .iter()
-        .filter(|speed| rules::judge(a, &limits::limits_at(**speed, contract)).is_ok())
-        .count() as u64
-}
-
-// The calls on the road of the file; 0 where it does not read.
-fn sum_of_judged(file: &[u8]) -> u64 {
-    let Ok(mut a) = alignment::read(file) else {
-        return 0;
-    };
-    let mut sum = 0u64;
-    for _ in 0..CALLS {
-        sum = sum.wrapping_add(judged(&a));
-        let mut head = a.head();
-        head.step ^= 1;
-        a.set_head(head);
+impl From<u8> for Measured {
+    fn from(letter: u8) -> Measured {
+        match letter {
+            b'r' => Measured::Read,
+            b'j' => Measured::Judge,
+            _ => Measured::Mark,
+        }
     }
-    sum
 }
 
-fn sum_of(kind: u8, file: &mut [u8]) -> u64 {
-    match kind {
-        b'j' => sum_of_judged(file),
-        b'r' => many_calls::sum_of(file, CALLS, |file, _| read(file)),
-        _ => many_calls::sum_of(file, CALLS, |file, _| marked(file)),
+// How many elements are read.
+fn read(file: &[u8]) -> Option<u64> {
+    alignment::read(file)
+        .ok()
+        .map(|a| a.elements().len() as u64)
+}
+
+// The marks.
+fn marked(file: &[u8]) -> Option<u64> {
+    speed_marks::marks(file).ok().map(u64::from)
+}
+
+// At how many of the seven speeds a road passes; then its step is changed by one.
+fn judged(a: &mut Alignment) -> u64 {
+    let mut head = a.head();
+    let passed = TRIED_SPEEDS
+        .iter()
+        .filter(|speed| rules::judge(a, &limits::limits_at(**speed, head.contract)).is_ok())
+        .count();
+    head.step ^= 1;
+    a.set_head(head);
+    passed as u64
+}
+
+// A road is read once, before it is judged.
+fn sum_of(measured: Measured, file: &mut [u8]) -> u64 {
+    match measured {
+        Measured::Read => many_calls::sum_of(file, CALLS, |file, _| read(file)),
+        Measured::Mark => many_calls::sum_of(file, CALLS, |file, _| marked(file)),
+        Measured::Judge => {
+            let mut road = alignment::read(file).ok();
+            many_calls::sum_of(file, CALLS, |_, _| road.as_mut().map(judged))
+        }
     }
 }
 
@@ -54,7 +65,7 @@ fn main(rt: HostRuntime) {
     let mut space = [0u8; 8194];
     let length = streams::read_full(&mut rt.stdin(), &mut space);
     if 4 <= length {
-        let sum = sum_of(space[0], &mut space[1..length]);
+        let sum = sum_of(Measured::from(space[0]), &mut space[1..length]);
         let _ = println!(rt; "{sum}");
     }
 }

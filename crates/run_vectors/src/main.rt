@@ -2,7 +2,7 @@
 
 #![tactic(auto)]
 
-ghost use Rattle.std.specs.Prelude.{◌≡◌, ◌<◌, ◌≤◌, length, IfSome, IfOk};
+ghost use Rattle.std.specs.Prelude.{◌<◌, ◌≤◌, length, IfSome};
 
 use runs::{Answer, Call};
 use std::io;
@@ -16,39 +16,40 @@ struct Run<'a> {
     calls: &'a [u8],
 }
 
-// ---- the input
+// ---- the input; where it breaks off, numbers are 0 and parts are empty
 
 // The run at the front of the input.
-fn split_run(input: &[u8]) -> Option<Run<'_>>
-    ensures { IfSome result (λ r. length r.calls.now < length input.now) }
+fn split_run(input: &[u8]) -> Run<'_>
+    ensures { 0 < length input.now → length result.calls.now < length input.now }
 {
-    let (file, rest) = cases::split_part(input)?;
-    let (line, rest) = cases::split_part(rest)?;
-    let (count, calls) = cases::split_number(rest)?;
-    Some(Run {
+    let (file, rest) = cases::part_or_empty(input);
+    let (line, rest) = cases::part_or_empty(rest);
+    let (count, calls) = cases::number_or_0(rest);
+    Run {
         file,
         line,
         count,
         calls,
-    })
+    }
 }
 
 // The call at the front of the input: its kind, 0 for a row, and the two halves of its station; and the bytes behind it.
-fn split_call(input: &[u8]) -> Option<(Call, &[u8])>
-    ensures { IfSome result (λ p. length p.1.now < length input.now) }
+fn split_call(input: &[u8]) -> (Call, &[u8])
+    ensures { length result.1.now ≤ length input.now }
 {
-    let (kind, rest) = cases::split_number(input)?;
-    let (high, rest) = cases::split_number(rest)?;
-    let (low, rest) = cases::split_number(rest)?;
+    let (kind, rest) = cases::number_or_0(input);
+    let (high, rest) = cases::number_or_0(rest);
+    let (low, rest) = cases::number_or_0(rest);
     let station = u64::from(high) << 32 | u64::from(low);
     let call = match kind {
         0 => Call::Row(station),
         _ => Call::Next(station),
     };
-    Some((call, rest))
+    (call, rest)
 }
 
 // ---- the output
+// Functions and no Display, since call and answer are types of another crate.
 
 fn show_call(rt: &impl Print, call: Call) -> io::Result<()> {
     match call {
@@ -68,6 +69,7 @@ fn show_answer(rt: &impl Print, answer: Answer) -> io::Result<()> {
     }
 }
 
+// Two hexadecimal digits a byte: std's formats print no slice so.
 fn show_bytes(rt: &impl Print, bytes: &[u8]) -> io::Result<()> {
     for b in bytes {
         print!(rt; "{b:02x}")?;
@@ -75,7 +77,12 @@ fn show_bytes(rt: &impl Print, bytes: &[u8]) -> io::Result<()> {
     println!(rt; "")
 }
 
-// ---- the runs
+// ---- the runs; what is not written whole does not hold up what follows
+
+fn show_buffer(rt: &impl Print, line: &[u8]) -> io::Result<()> {
+    print!(rt; "buffer ")?;
+    show_bytes(rt, line)
+}
 
 // One call, its answer, and the buffer after it.
 fn make_call(rt: &impl Print, file: &[u8], call: Call, line: &mut [u8]) -> io::Result<()> {
@@ -85,47 +92,40 @@ fn make_call(rt: &impl Print, file: &[u8], call: Call, line: &mut [u8]) -> io::R
     show_bytes(rt, line)
 }
 
-// The calls of a run; the bytes behind them, none where its buffer is over 256 bytes.
-fn make_run<'a>(rt: &impl Print, run: Run<'a>) -> io::Result<&'a [u8]>
-    ensures { IfOk result (λ rest. length rest.now ≤ length run.entry.calls.now) }
+// The calls of a run, and the bytes behind them; a run whose buffer is over 256 bytes is not made.
+fn make_run<'a>(rt: &impl Print, run: Run<'a>) -> Option<&'a [u8]>
+    ensures { IfSome result (λ rest. length rest.now ≤ length run.entry.calls.now) }
 {
     let mut space = [0u8; 256];
     let size = run.line.len();
     if space.len() < size {
-        return Ok(&[]);
+        return None;
     }
     let line = &mut space[..size];
     line.copy_from_slice(run.line);
-    print!(rt; "buffer ")?;
-    show_bytes(rt, line)?;
+    let _ = show_buffer(rt, line);
     let mut calls = run.calls;
     for _ in 0..run.count {
-        let Some((call, rest)) = split_call(calls) else {
-            break;
-        };
-        make_call(rt, run.file, call, line)?;
+        let (call, rest) = split_call(calls);
+        let _ = make_call(rt, run.file, call, line);
         calls = rest;
     }
-    Ok(calls)
+    Some(calls)
 }
 
-fn make_runs(rt: &impl Print, input: &[u8]) -> io::Result<()> {
+// The runs, up to the first that is not made.
+fn make_runs(rt: &impl Print, input: &[u8]) {
     let mut rest = input;
-    while let Some(run) = split_run(rest) {
-        rest = make_run(rt, run)?;
+    while !rest.is_empty() {
+        let Some(behind) = make_run(rt, split_run(rest)) else {
+            break;
+        };
+        rest = behind;
     }
-    Ok(())
 }
 
-// Room for all of the input; its length is what lending it asks for.
-fn room() -> [u8; 524288]
-    ensures { 524288 ≡ length result }
-{
-    [0; 524288]
-}
-
-fn main(rt: HostRuntime) -> io::Result<()> {
-    let mut space = room();
+fn main(rt: HostRuntime) {
+    let mut space = cases::room();
     let count = streams::read_full(&mut rt.stdin(), &mut space);
-    make_runs(&rt, &space[..count])
+    make_runs(&rt, &space[..count]);
 }

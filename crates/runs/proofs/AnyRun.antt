@@ -25,7 +25,7 @@ use Rattle.runs.specs.Listing.{ListingRows}
 use Rattle.runs.proofs.RowsBack.{blade-seen}
 use Rattle.runs.proofs.Refused.{same-refusal}
 use Rattle.runs.proofs.Listing.{listing-seen}
-use Rattle.runs.proofs.Answered.{row-answer, next-answer}
+use Rattle.runs.specs.Answered.{row-answer, next-answer}
 
 -- what `stationing::row` ensures, at references to these lists
 pub record RowMet (f : List ℕ) (s : ℕ) (b : List ℕ) (r : Result ℕ Refusal) (b' : List ℕ) : Type 0 where

@@ -3,7 +3,6 @@ pub mod Progress
 pub mod RowsBack
 pub mod Refused
 pub mod Listing
-pub mod Answered
 pub mod AnyRun
 pub mod Sizes
 pub mod Witnesses

@@ -29,7 +29,7 @@ use Rattle.runs.specs.declared.Call.{Call}
 use Rattle.runs.specs.declared.Answer.{Answer}
 use Rattle.runs.specs.declared.Call.TheVariants as asked
 use Rattle.runs.specs.declared.Answer.TheVariants as answered
-use Rattle.runs.proofs.Answered.{call-answer}
+use Rattle.runs.specs.Answered.{answer_back}
 use Rattle.runs.proofs.Sizes.{fit-sized}
 use Rattle.runs.proofs.Seen.{recorded}
 use Rattle.runs.proofs.RowsBack.{RowCall, row-call, blade-recorded}
@@ -40,7 +40,7 @@ use Rattle.runs.proofs.Listing.{listing-recorded}
 
 answers-of : (f b : List ℕ) → List Call → List Answer
 answers-of f b [] = []
-answers-of f b (c ∷ calls) = (call-answer f b c).0 ∷ answers-of f (step f b (call_of c)).buffer calls
+answers-of f b (c ∷ calls) = (answer_back f b (call_of c)).0 ∷ answers-of f (step f b (call_of c)).buffer calls
 
 answers-length : (f b : List ℕ) (calls : List Call) → length (answers-of f b calls) ≡ length calls
 unfolding answers-of
@@ -62,7 +62,7 @@ run-seen f b (c ∷ calls) size e =
     let t = step f b (call_of c) in
     let k : length t.buffer ≡ size = step-length f b (call_of c) ∙ e in
     let rest = frames_of (run_of f t.buffer calls) in
-    rw (take_at t.buffer rest size k, drop_at t.buffer rest size k, (call-answer f b c).1, run-seen f t.buffer calls size k)
+    rw (take_at t.buffer rest size k, drop_at t.buffer rest size k, (answer_back f b (call_of c)).1, run-seen f t.buffer calls size k)
 
 -- a record of the run on these calls
 pub record RunRecord (f b : List ℕ) (calls : List Call) : Type 0 where

@@ -1,4 +1,5 @@
 pub mod Answers
+pub mod Answered
 pub mod Calls
 pub mod Recorded
 pub mod RecordedRows

@@ -63,7 +63,7 @@ fn run_sized(
     ensures refused { (n p : ℕ) → accepted file.now ≡ refused n p → TurnedAway n p line.old calls.now line.new answers.new frames.new }
 {
     let size = line.len();
-    // by place: of what a chain over the two lent slices wrote, a proof knows no item
+    // by place: a chain over the two lent slices was tried, and the proof knew no item of what it wrote
     for (k, call) in calls.iter().enumerate() {
         answers[k] = call.answer(file, line);
         let at = k * size;
@@ -72,6 +72,7 @@ fn run_sized(
 }
 
 // The calls one after the other on one file and one line, written down; where what is lent does not have the sizes that the record takes, nothing is done.
+// Five parameters: a struct of the slices that are lent would be made for a call and taken apart in it.
 pub fn run(
     file: &[u8],
     calls: &[Call],

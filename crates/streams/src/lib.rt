@@ -53,8 +53,5 @@ pub fn read_full<R: Read>(reader: &mut R, buffer: &mut [u8]) -> usize
     ensures within { result ≤ length buffer.new }
     ensures first { Consumes (R.remaining reader.old) (R.remaining reader.new) (take result buffer.new) }
 {
-    match fill(reader, buffer) {
-        Ok(count) => count,
-        Err(failed) => failed.count,
-    }
+    fill(reader, buffer).unwrap_or_else(|failed| failed.count)
 }

@@ -7,7 +7,7 @@ use Rattle.list_output.proofs.print_rows.Given.{Over}
 
 -- the rows in the buffer are the part that follows
 part : (g : Over) (c : After-rows_from-chunk g) → PartOf c.args.road.now c.in-Some.station c.rows_from-chunk.new.out c.rows_from-chunk.result
-part g c = part_at c.requires.guaranteed c.in-Some.station c.loop-next.out (omega (arith, c.loop-next.auto.out, c.requires.room)) c.rows_from-chunk.ensures.value c.rows_from-chunk.ensures.out_after
+part g c = part_at c.rows_from-chunk.ensures.guaranteed c.in-Some.station c.loop-next.out (omega (arith, c.loop-next.auto.out, c.requires)) c.rows_from-chunk.ensures.value c.rows_from-chunk.ensures.out_after
 
 pub slice_bounds-write_whole-end : goal.slice_bounds-write_whole-end
 slice_bounds-write_whole-end g c = (part g (goal.at.slice_bounds-write_whole-end g c).After-rows_from-chunk).fits

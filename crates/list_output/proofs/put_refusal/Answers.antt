@@ -1,6 +1,5 @@
 use Rattle.std.proofs.Common.{arith}
 use Rattle.decimal.specs.Written.{wrote_byte, wrote-first, wrote-behind, wrote-length}
-use Rattle.road.specs.Faults.{fault_number}
 use Rattle.list_output.specs.RefusalLine.{refusal-parts}
 use Rattle.list_output.proofs.put_refusal.Goals as goal
 
@@ -11,4 +10,4 @@ returns-clause-wrote c =
     let n = c.put_number-end.ensures in
     let number = wrote-behind (omega (arith, wrote-length mark (omega arith))) n.wrote mark (omega arith) in
     let whole = wrote-behind (omega (arith, number.end, n.most, wrote-length number (omega (arith, number.end, n.most)))) c.put_number-end-2.ensures.wrote number (omega (arith, number.end, n.most)) in
-    rw (c.from.ensures, c.number.ensures, refusal-parts (fault_number c.args.refusal.fault) c.args.refusal.place) at whole
+    rw (c.from.ensures, refusal-parts c.args.number c.args.place) at whole

@@ -1,5 +1,5 @@
 use Rattle.std.proofs.Common.{length}
 use Rattle.list_vectors.proofs.print_lists.Given as goal
 
-abbrev pub decreases-loop-file : goal.decreases-loop-file
-decreases-loop-file g l = length l.rest
+abbrev pub decreases-loop-rest : goal.decreases-loop-rest
+decreases-loop-rest g l = length l.rest

@@ -1,4 +1,4 @@
--- The machine's answer to each call, as the routines give it.
+-- Each answer of the plain machine stands in a recorded one.
 use Rattle.std.specs.Prelude.{◌≡◌, refl, Bool, true, false, if◌then◌else◌, List, ℕ, zero, suc, length, ltb, Option, Some, None, Result, Ok, Err}
 use Rattle.std.proofs.Common.{◌⊎◌, inl, inr, ap, arith}
 use Rattle.file_numbers.specs.Reading.{Got, got, refused}
@@ -11,14 +11,11 @@ use Rattle.road.specs.Rules.{order, accepted}
 use Rattle.road.specs.declared.refusal.Fault.{Fault}
 use Rattle.road.specs.declared.refusal.Fault.TheVariants.{LongFile, BrokenNumber, OutOfRange, BytesBehind, Broken, ShortBuffer, BeyondEnd, NoDay}
 use Rattle.road.specs.declared.refusal.Refusal.{Refusal}
-use Rattle.road.specs.Machine.{refusal, wrote, of_row, of_next, row_on, row_answer, station_or, next_on, next_answer, step}
+use Rattle.road.specs.Machine.{Call, row, next, refusal, wrote, of_row, of_next, row_on, row_answer, station_or, next_on, next_answer, step}
 use Rattle.laws_of_acceptance.specs.Judging.{rule_at}
 use Rattle.laws_of_acceptance.specs.Refusals.{ByRule, WithinOr, refused_iff, read_number}
 use Rattle.runs.specs.Answers.{answer_of}
-use Rattle.runs.specs.Calls.{call_of}
-use Rattle.runs.specs.declared.Call.{Call}
 use Rattle.runs.specs.declared.Answer.{Answer}
-use Rattle.runs.specs.declared.Call.TheVariants as asked
 use Rattle.runs.specs.declared.Answer.TheVariants as answered
 
 -- what a file that does not read is refused for
@@ -39,6 +36,7 @@ fault f n p e = go ((refused_iff f n p).0 e)
     go (inl r) = read-fault n (read_number f n p r)
     go (inr b) = (Broken (rule_at order b.lowest.place), b.lowest.number)
 
+-- a result of the row routine says the machine's answer
 pub row-answer : (f : List ℕ) (s room : ℕ) → (r : Result ℕ Refusal) × (of_row r ≡ row_answer f s room)
 unfolding row_answer
 row-answer f s room = by (accepted f) refl
@@ -52,6 +50,7 @@ row-answer f s room = by (accepted f) refl
         tests false true = (Err (record { fault = BeyondEnd; place = 0 }), refl)
         tests false false = (Ok (length (line r s)), refl)
 
+-- so does one of the next routine
 pub next-answer : (f : List ℕ) (s : ℕ) → (r : Result (Option ℕ) Refusal) × (of_next r ≡ next_answer f s)
 unfolding next_answer
 next-answer f s = by (accepted f) refl
@@ -64,7 +63,8 @@ next-answer f s = by (accepted f) refl
     by (refused n p) e = let w = fault f n p e in (Err (record { fault = w.0; place = p }), ap (λ (k : ℕ). refusal k p) w.1)
     by (got r end) e = (Ok (next_listed r s), listed (next_listed r s))
 
-pub call-answer : (f b : List ℕ) (c : Call) → (x : Answer) × (answer_of x ≡ (step f b (call_of c)).answer)
+-- whatever the file, the buffer and the call
+pub answer_back : (f b : List ℕ) (c : Call) → (x : Answer) × (answer_of x ≡ (step f b c).answer)
 unfolding step
-call-answer f b (asked.Row s) = let r = row-answer f s (length b) in (answered.Row r.0, r.1)
-call-answer f b (asked.Next s) = let r = next-answer f s in (answered.Next r.0, r.1)
+answer_back f b (row s) = let r = row-answer f s (length b) in (answered.Row r.0, r.1)
+answer_back f b (next s) = let r = next-answer f s in (answered.Next r.0, r.1)
