@@ -186,7 +186,7 @@ impl<'a> Judging<'a> {
     }
 
     // Refusal 19: on an arc a crossfall changes or is wrong. Where the points ascend, the pairs of points are passed along with the elements, each once.
-    // By two places: with `for` over the elements and a loop over the points within, judging takes 7 % more instructions.
+    // By two places: a `for` over the elements needs a loop over the points within, which goes on where it stopped, and is no plainer.
     fn first_arc(&self) -> Option<usize>
         requires { PointOrder self.now.alignment.now }
         ensures { result ≡ first_broken ruled.Superelevation self.now.limits.now self.now.alignment.now }
