@@ -12,7 +12,7 @@ use std::marker::Model;
 
 // Contracts see the road; that it keeps the rules and the limits is a fact of every value.
 // Each method ensures `Guaranteed`, since callers in other crates know an invariant only by what a method ensures.
-#[derive(Clone, Drop)]
+#[derive(Clone, Copy)]
 pub struct AcceptedRoad {
     alignment: Alignment,
     lane: u32,
@@ -24,11 +24,15 @@ impl Model for AcceptedRoad {
 
     ghost Value = { Road };
 
-    ghost use Rattle.accepted_road.specs.Kept.{Kept};
+    ghost use Rattle.accepted_road.specs.Kept.{Kept, kept, kept-back};
 
     ghost view = { λ v. v.alignment };
 
     ghost invariant = { Kept };
+
+    ghost inverse = { kept };
+
+    ghost inverse_ok = { kept-back };
 }
 
 impl AcceptedRoad {

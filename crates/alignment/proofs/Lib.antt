@@ -2,4 +2,3 @@ pub mod Ends
 pub mod Onward
 pub mod Lists
 pub mod Parts
-pub mod Within

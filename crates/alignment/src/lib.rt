@@ -6,6 +6,7 @@ ghost use Rattle.std.specs.Prelude.{◌≡◌, length, IfOk};
 ghost use Rattle.file_numbers.specs.Reading.{got};
 ghost use Rattle.road.specs.File.{fields, read};
 ghost use Rattle.road.specs.Faults.{of_result, of_got};
+ghost use Rattle.reader.specs.Standing.{standing};
 ghost use Rattle.fields.specs.Reads.{Reads};
 
 use fields::{read_field, read_signed};
@@ -18,9 +19,9 @@ const MOST_BYTES: usize = 8192;
 
 // Every field of the file, in order.
 // A loop for each list: one function over a reading and a push was tried: it takes five arguments, and cannot show the push that there is room.
-#[tactic(auto, using(fields::specs::Onward::stopped, crate::proofs::Parts::few), unfolding(road::specs::File::fields))]
+#[tactic(auto, using(fields::specs::Onward::stopped), unfolding(road::specs::File::fields))]
 fn read_fields(r: &mut Reader) -> Result<Alignment, Refusal>
-    ensures { Reads fields r.old r.new result }
+    ensures { Reads fields (standing r.old) (standing r.new) result }
 {
     let mut a = Alignment::new(read_head(r)?);
     let elements = read_field(r, 1..=200)?;
@@ -40,7 +41,7 @@ fn read_fields(r: &mut Reader) -> Result<Alignment, Refusal>
 }
 
 // The whole file, to its last byte.
-#[tactic(auto, using(crate::proofs::Within::read_whole), unfolding(road::specs::File::read, road::specs::File::ended))]
+#[tactic(auto, using(crate::specs::Within::read_whole), unfolding(road::specs::File::read, road::specs::File::ended))]
 pub fn read(file: &[u8]) -> Result<Alignment, Refusal>
     ensures answer { of_result result ≡ of_got (read file.now) }
     ensures whole { IfOk result (λ road. read file.now ≡ got road (length file.now)) }

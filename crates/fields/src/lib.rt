@@ -7,6 +7,7 @@ ghost use Rattle.std.specs.Ordering.{partial_le};
 ghost use Rattle.file_numbers.specs.Number.{number};
 ghost use Rattle.road.specs.File.{field, date, signed, between, in_size};
 ghost use Rattle.road.specs.declared.refusal.Fault.{Fault};
+ghost use Rattle.reader.specs.Standing.{standing};
 ghost use Rattle.fields.specs.Reads.{Reads, saying, where_fits};
 
 use file_numbers::signed_of;
@@ -16,7 +17,7 @@ use std::ops::RangeInclusive;
 
 // The number at the reading place; one at fault is refused at its first byte.
 pub fn read_number(r: &mut Reader) -> Result<u32, Refusal>
-    ensures { Reads number r.old r.new result }
+    ensures { Reads number (standing r.old) (standing r.new) result }
 {
     let place = r.place();
     r.number().ok_or(Fault::BrokenNumber.at(place))
@@ -25,7 +26,7 @@ pub fn read_number(r: &mut Reader) -> Result<u32, Refusal>
 // What the number at the reading place says; one that says nothing is refused at its first byte.
 pub fn read_as<T, F: FnOnce(u32) -> Result<T, Fault>>(r: &mut Reader, says: F) -> Result<T, Refusal>
     requires { F.IsAlwaysCallable says }
-    ensures { (told : ℕ → Result T Fault) → ((v : ℕ) (o : Result T Fault) → F.post says v o → o ≡ told v) → Reads (saying told) r.old r.new result }
+    ensures { (told : ℕ → Result T Fault) → ((v : ℕ) (o : Result T Fault) → F.post says v o → o ≡ told v) → Reads (saying told) (standing r.old) (standing r.new) result }
 {
     let place = r.place();
     let number = read_number(r)?;
@@ -48,7 +49,7 @@ fn is_within<T: PartialOrd>(value: &T, range: &RangeInclusive<T>) -> bool
 
 // A number in the range.
 pub fn read_field(r: &mut Reader, range: RangeInclusive<u32>) -> Result<u32, Refusal>
-    ensures { Reads (field range.start range.end) r.old r.new result }
+    ensures { Reads (field range.start range.end) (standing r.old) (standing r.new) result }
 {
     read_as(r, |v| {
         where_fits(v, is_within(&v, &range), Fault::OutOfRange)
@@ -57,14 +58,14 @@ pub fn read_field(r: &mut Reader, range: RangeInclusive<u32>) -> Result<u32, Ref
 
 // The date of the contract.
 pub fn read_date(r: &mut Reader) -> Result<u32, Refusal>
-    ensures { Reads date r.old r.new result }
+    ensures { Reads date (standing r.old) (standing r.new) result }
 {
     read_as(r, |v| where_fits(v, days::is_day(v), Fault::NoDay))
 }
 
 // A signed value in the range.
 pub fn read_signed(r: &mut Reader, range: RangeInclusive<i64>) -> Result<i32, Refusal>
-    ensures { Reads (signed (between range.start range.end)) r.old r.new result }
+    ensures { Reads (signed (between range.start range.end)) (standing r.old) (standing r.new) result }
 {
     read_as(r, |v| {
         let value = signed_of(v);
@@ -75,7 +76,7 @@ pub fn read_signed(r: &mut Reader, range: RangeInclusive<i64>) -> Result<i32, Re
 
 // A signed value whose size is in the range.
 pub fn read_sized(r: &mut Reader, range: RangeInclusive<u32>) -> Result<i32, Refusal>
-    ensures { Reads (signed (in_size range.start range.end)) r.old r.new result }
+    ensures { Reads (signed (in_size range.start range.end)) (standing r.old) (standing r.new) result }
 {
     read_as(r, |v| {
         let value = signed_of(v);

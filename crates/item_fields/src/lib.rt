@@ -3,6 +3,7 @@
 #![tactic(auto, using(fields::specs::Onward::chained, fields::specs::Onward::stopped, fields::specs::Onward::gives, crate::proofs::Contracts::dated, crate::proofs::Contracts::plain), unfolding(road::specs::File::element, road::specs::File::tangent, road::specs::File::point, road::specs::File::dated_fields, road::specs::File::head_fields))]
 
 ghost use Rattle.road.specs.File.{element, half, tangent, point, contract_fields, head_fields};
+ghost use Rattle.reader.specs.Standing.{standing};
 ghost use Rattle.fields.specs.Reads.{Reads};
 
 use fields::{read_as, read_date, read_field, read_number, read_signed, read_sized};
@@ -10,7 +11,7 @@ use reader::Reader;
 use road::{Class, Contract, Crossfall, Element, Head, Kind, Refusal, Tangent, Terrain};
 
 pub fn read_element(r: &mut Reader) -> Result<Element, Refusal>
-    ensures { Reads element r.old r.new result }
+    ensures { Reads element (standing r.old) (standing r.new) result }
 {
     let kind = read_as(r, Kind::try_from)?;
     let length = read_field(r, 1..=10_000_000)?;
@@ -29,7 +30,7 @@ pub fn read_element(r: &mut Reader) -> Result<Element, Refusal>
 // The half length of the vertical curve after a tangent. `follow`: how many tangents follow it, as the definition
 // counts and the reading of the file does; a bool would be made from it at each call.
 fn read_half(r: &mut Reader, follow: usize) -> Result<u32, Refusal>
-    ensures { Reads (half follow) r.old r.new result }
+    ensures { Reads (half follow) (standing r.old) (standing r.new) result }
 {
     if follow == 0 {
         Ok(0)
@@ -39,7 +40,7 @@ fn read_half(r: &mut Reader, follow: usize) -> Result<u32, Refusal>
 }
 
 pub fn read_tangent(r: &mut Reader, follow: usize) -> Result<Tangent, Refusal>
-    ensures { Reads (tangent follow) r.old r.new result }
+    ensures { Reads (tangent follow) (standing r.old) (standing r.new) result }
 {
     let length = read_field(r, 1..=10_000_000)?;
     let grade = read_signed(r, -120_000..=120_000)?;
@@ -52,7 +53,7 @@ pub fn read_tangent(r: &mut Reader, follow: usize) -> Result<Tangent, Refusal>
 }
 
 pub fn read_crossfall(r: &mut Reader) -> Result<Crossfall, Refusal>
-    ensures { Reads point r.old r.new result }
+    ensures { Reads point (standing r.old) (standing r.new) result }
 {
     let station = read_field(r, 0..=100_000_000)?;
     let left = read_signed(r, -80_000..=80_000)?;
@@ -66,7 +67,7 @@ pub fn read_crossfall(r: &mut Reader) -> Result<Crossfall, Refusal>
 
 // The contract's date where 9 stands before the class; else nothing is read.
 fn read_contract(r: &mut Reader) -> Result<Contract, Refusal>
-    ensures { Reads contract_fields r.old r.new result }
+    ensures { Reads contract_fields (standing r.old) (standing r.new) result }
 {
     if r.peek() != Some(9) {
         return Ok(Contract::Undated);
@@ -77,7 +78,7 @@ fn read_contract(r: &mut Reader) -> Result<Contract, Refusal>
 }
 
 pub fn read_head(r: &mut Reader) -> Result<Head, Refusal>
-    ensures { Reads head_fields r.old r.new result }
+    ensures { Reads head_fields (standing r.old) (standing r.new) result }
 {
     let contract = read_contract(r)?;
     let class = read_as(r, Class::try_from)?;

@@ -2,10 +2,15 @@
 use Rattle.std.specs.Prelude.{ℕ, ◌≡◌, List, Option, Some, None}
 use Rattle.file_numbers.specs.Reading.{Got, got, refused}
 use Rattle.file_numbers.specs.Number.{number}
+use Rattle.reader.specs.declared.Reader.{Reader}
 
 pub record Standing : Type 0 where
   pub bytes : List ℕ
   pub place : ℕ
+
+-- where a reader stands
+abbrev pub standing : Reader → Standing
+standing r = record { bytes = r.src.now; place = r.place }
 
 -- a number read from a place on, with reading standing at the next after it; or refusal 2 at its first byte
 abbrev pub said : Option ℕ → (at next : ℕ) → Got ℕ

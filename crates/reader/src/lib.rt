@@ -3,36 +3,27 @@
 #![tactic(auto)]
 
 ghost use Rattle.std.specs.Prelude.{◌≡◌};
-ghost use Rattle.reader.specs.Standing.{Passes, value_there};
-ghost use Rattle.file_numbers.specs.Number.{number};
 
-use std::marker::Model;
-
-#[derive(Clone, Drop)]
+#[derive(Clone, Copy)]
 pub struct Reader<'a> {
-    src: &'a [u8],
-    place: usize,
-}
-
-impl<'a> Model for Reader<'a> {
-    ghost use Rattle.reader.specs.Standing.{Standing};
-
-    ghost Value = { Standing };
-
-    ghost view = { λ r. record { bytes = r.src.now; place = r.place } };
+    pub src: &'a [u8],
+    pub place: usize,
 }
 
 impl<'a> Reader<'a> {
+    ghost use Rattle.reader.specs.Standing.{standing, Passes, value_there};
+    ghost use Rattle.file_numbers.specs.Number.{number};
+
     // A reader of the caller's bytes, at the first of them.
     pub fn new(src: &'a [u8]) -> Self
-        ensures { result ≡ record { bytes = src.entry.now; place = 0 } }
+        ensures { standing result ≡ record { bytes = src.entry.now; place = 0 } }
     {
         Reader::at(src, 0)
     }
 
     // A reader of the caller's bytes, at a place, which may lie behind the last of them.
     pub fn at(src: &'a [u8], place: usize) -> Self
-        ensures { result ≡ record { bytes = src.entry.now; place = place } }
+        ensures { standing result ≡ record { bytes = src.entry.now; place = place } }
     {
         Reader { src, place }
     }
@@ -46,14 +37,14 @@ impl<'a> Reader<'a> {
 
     // The number at the reading place, which stays.
     pub fn peek(&self) -> Option<u32>
-        ensures { result ≡ value_there (number self.now.bytes self.now.place) }
+        ensures { result ≡ value_there (number (standing self.now).bytes (standing self.now).place) }
     {
         file_numbers::read_number(self.src, self.place).map(|n| n.value)
     }
 
     // The number at the reading place, which moves past it; a number at fault is not passed.
     pub fn number(&mut self) -> Option<u32>
-        ensures { Passes self.old self.new result }
+        ensures { Passes (standing self.old) (standing self.new) result }
     {
         let number = file_numbers::read_number(self.src, self.place)?;
         self.place = number.next;

@@ -14,7 +14,7 @@ const MOST_TANGENTS: usize = 100;
 const MOST_CROSSFALLS: usize = 200;
 
 // An alignment is held as three arrays with their counts, the form that the project fixes, and no heap. Contracts see the road that it holds.
-#[derive(Clone, Drop)]
+#[derive(Clone, Copy)]
 pub struct Alignment {
     head: Head,
     elements: [Element; MOST_ELEMENTS],
@@ -31,11 +31,15 @@ impl Model for Alignment {
 
     ghost Value = { Road };
 
-    ghost use Rattle.road.specs.Held.{road_in, Counted};
+    ghost use Rattle.road.specs.Held.{road_in, held, held-back, Filled};
 
     ghost view = { road_in };
 
-    ghost invariant = { Counted };
+    ghost invariant = { Filled };
+
+    ghost inverse = { held };
+
+    ghost inverse_ok = { held-back };
 }
 
 impl Alignment {

@@ -9,7 +9,7 @@ use Rattle.fields.specs.Onward.{gives}
 use Rattle.alignment.proofs.Ends.{field_between, signed_between}
 use Rattle.alignment.proofs.Onward.{ends, onward, refused_there}
 use Rattle.alignment.proofs.Lists.{list_ends, item, item_refused}
-use Rattle.alignment.proofs.Parts.{after_plan, plan_left, profile_left, with_tangents, crossfalls_left, with_crossfalls}
+use Rattle.alignment.proofs.Parts.{few, after_plan, plan_left, profile_left, with_tangents, crossfalls_left, with_crossfalls}
 use Rattle.alignment.proofs.read_fields.Goals as goal
 
 pub returns-in_err-elements : goal.returns-in_err-elements
@@ -25,6 +25,9 @@ returns-in_err-read_element c =
     let l = c.loop in
     let p = item_refused (λ _. element) (after_plan l.a.head) l.a.plan (c.in_ok-elements.elements - (l.counter + 1)) (omega arith) l.invariant.left c.in_err-read_element.ensures in
     grind arith
+
+pub push_element-requires : goal.push_element-requires
+push_element-requires c = let most = few 1 200 (field_between c.new.ensures.start c.new.ensures.end c.in_ok-elements.ensures) in omega arith
 
 pub loop-preserved : goal.loop-preserved
 loop-preserved c =
@@ -59,6 +62,9 @@ returns-in_err-read_tangent c =
     let p = item_refused tangent (with_tangents l.a.head l.a.plan l.a.start) l.a.tangents (l.follow - 1) (omega arith) l.invariant.left c.in_err-read_tangent.ensures in
     grind arith
 
+pub push_tangent-requires : goal.push_tangent-requires
+push_tangent-requires c = let most = few 1 100 (field_between c.new-3.ensures.start c.new-3.ensures.end c.in_ok-tangents.ensures) in omega arith
+
 pub loop-follow-preserved : goal.loop-follow-preserved
 loop-follow-preserved c =
     let l = c.loop-follow in
@@ -84,6 +90,9 @@ returns-in_err-read_crossfall c =
     let l = c.loop-2 in
     let p = item_refused (λ _. point) (with_crossfalls l.a.head l.a.plan l.a.start l.a.tangents) l.a.crossfalls (c.in_ok-crossfalls.crossfalls - (l.counter + 1)) (omega arith) l.invariant.left c.in_err-read_crossfall.ensures in
     grind arith
+
+pub push_crossfall-requires : goal.push_crossfall-requires
+push_crossfall-requires c = let most = few 2 200 (field_between c.new-4.ensures.start c.new-4.ensures.end c.in_ok-crossfalls.ensures) in omega arith
 
 pub loop-2-preserved : goal.loop-2-preserved
 loop-2-preserved c =

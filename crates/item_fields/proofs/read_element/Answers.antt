@@ -1,4 +1,5 @@
 use Rattle.std.proofs.Common.{rules, arith}
+use Rattle.reader.specs.Standing.{standing}
 use Rattle.road.specs.File.{choice, element, kind_of}
 use Rattle.fields.specs.Fits.{chosen}
 use Rattle.fields.specs.Reads.{Reads}
@@ -7,7 +8,7 @@ use Rattle.std.specs.Prelude.{Ok}
 use Rattle.item_fields.proofs.read_element.Goals as goal
 use Rattle.item_fields.proofs.read_element.Goals.{In_ok-kind}
 
-read_kind : (c : In_ok-kind) → Reads (choice 0 2 kind_of) c.args.r.now c.read_as.new.r (Ok c.in_ok-kind.kind)
+read_kind : (c : In_ok-kind) → Reads (choice 0 2 kind_of) (standing c.args.r.now) (standing c.read_as.new.r) (Ok c.in_ok-kind.kind)
 read_kind c = chosen 0 2 kind_of (c.in_ok-kind.ensures _ (λ n o e. search rules))
 
 pub returns-in_err-kind : goal.returns-in_err-kind

@@ -1,7 +1,8 @@
 -- No reading of the file ends past its last byte: a file that was read was read to its end. Assumes nothing.
-use Rattle.std.specs.Prelude.{◌≡◌, ℕ, zero, suc, ◌+◌, ◌%◌, ◌≤◌, List, [], ◌∷◌, Bool, true, false, ◌&&◌, length, drop, leb, Option, None, Some, option_map, ℤ, pos, negsuc, if◌then◌else◌}
+use Rattle.std.specs.Prelude.{◌≡◌, refl, ltb, ℕ, zero, suc, ◌+◌, ◌%◌, ◌≤◌, List, [], ◌∷◌, Bool, true, false, ◌&&◌, length, drop, leb, Option, None, Some, option_map, ℤ, pos, negsuc, if◌then◌else◌}
 use Rattle.std.proofs.Common.{sym, arith, length-drop, le-ltb}
-use Rattle.file_numbers.specs.Reading.{got, refused, and_then, Reading, ◌>>=◌, give, many}
+use Rattle.std.proofs.lemmas.Bool.{ltb-false}
+use Rattle.file_numbers.specs.Reading.{Got, got, refused, and_then, Reading, ◌>>=◌, give, many}
 use Rattle.file_numbers.specs.Number.{Groups, lowest, groups, sound, checked_from, number_from, number, signed_of}
 use Rattle.file_numbers.specs.Refused.{refused_not_got}
 use Rattle.days.specs.Day.{is_day}
@@ -167,3 +168,20 @@ read_whole s {r} {next} all few last =
     let within = fields_ends s 0 r next (omega arith) (sym all) in
     let at_end : next ≡ length s = omega arith in
     simp (le-ltb 8192 (length s) few, sym all, at_end, le-ltb (length s) (length s) (omega arith))
+
+-- a file that was read was read to its end
+pub read-ends : (s : List ℕ) (r : Road) (next : ℕ) → read s ≡ got r next → next ≡ length s
+unfolding read ended
+read-ends s r next e = short (ltb 8192 (length s)) e
+  where
+    last : (q : Road) (at : ℕ) → at ≤ length s → (t : Bool) → ltb at (length s) ≡ t → (if t then refused 4 at else got q at) ≡ got r next → next ≡ length s
+    last q at within true u h = cc
+    last q at within false u h = let none_left = ltb-false at (length s) u in let same : at ≡ next = cc in omega arith
+
+    parts : (g : Got Road) → fields s 0 ≡ g → and_then g (λ q at. ended q s at) ≡ got r next → next ≡ length s
+    parts (got q at) u h = last q at (fields_ends s 0 q at (omega arith) u) (ltb at (length s)) refl h
+    parts (refused k p) u h = cc
+
+    short : (t : Bool) → (if t then refused 1 8192 else and_then (fields s 0) (λ q at. ended q s at)) ≡ got r next → next ≡ length s
+    short true h = cc
+    short false h = parts (fields s 0) refl h
