@@ -3,7 +3,7 @@
 #![tactic(auto)]
 
 ghost use Rattle.std.specs.Prelude.{◌≡◌, ℕ, ◌<◌, slice_index};
-ghost use Rattle.road.specs.Limits.{speed, table, handbook, cell, limit_of_cell, is_old, radius_min_at, clothoid_at, limits_at, limits_of};
+ghost use Rattle.road.specs.Limits.{class_number, terrain_number, speed_at, table, handbook, cell, limit_of_cell, is_old, radius_min_at, clothoid_at, limits_at, limits_of};
 
 use road::{Class, Contract, Head, LeastClothoid, Limits, Terrain};
 
@@ -121,16 +121,56 @@ pub fn limits_at(speed: u32, contract: Contract) -> Limits
     }
 }
 
-// The speed of a class and a terrain.
-#[tactic(auto, unfolding(road::specs::Limits::speed))]
-pub fn speed_of(class: Class, terrain: Terrain) -> u32
-    ensures { result ≡ speed class terrain }
+// A class or a terrain, or the number by which a file names it; a number may be any.
+pub trait Numbered: Copy {
+    ghost use Rattle.std.specs.Prelude.{ℕ};
+
+    ghost number: { Self → ℕ };
+
+    fn number(self) -> u32
+        ensures { result ≡ number self };
+}
+
+impl Numbered for u32 {
+    ghost number = { λ n. n };
+
+    fn number(self) -> u32 {
+        self
+    }
+}
+
+impl Numbered for Class {
+    ghost number = { class_number };
+
+    fn number(self) -> u32 {
+        self.row() as u32 + 1
+    }
+}
+
+impl Numbered for Terrain {
+    ghost number = { terrain_number };
+
+    fn number(self) -> u32 {
+        self.column() as u32 + 1
+    }
+}
+
+// The speed of a class and a terrain; 0 where a number names none.
+#[tactic(auto, unfolding(road::specs::Limits::speed_at))]
+pub fn speed_of<C: Numbered, T: Numbered>(class: C, terrain: T) -> u32
+    ensures { result ≡ speed_at (C.number class) (T.number terrain) }
 {
-    SPEEDS[class.row()][terrain.column()]
+    let row = class.number().saturating_sub(1) as usize;
+    let column = terrain.number().saturating_sub(1) as usize;
+    SPEEDS
+        .get(row)
+        .and_then(|speeds| speeds.get(column))
+        .copied()
+        .unwrap_or(0)
 }
 
 // The limits of a road, from its head.
-#[tactic(auto, unfolding(road::specs::Limits::limits_of))]
+#[tactic(auto, using(road::specs::Limits::named_speed), unfolding(road::specs::Limits::limits_of))]
 pub fn limits_of(head: Head) -> Limits
     ensures { result ≡ limits_of head }
 {

@@ -1,5 +1,6 @@
 -- Document 01, "Speed and its row", with the rule book that request A.1 gives to the contract's date.
-use Rattle.std.specs.Prelude.{ℕ, ◌-◌, ◌/◌, List, [], ◌∷◌, Bool, true, false, get_or, ltb, eqb, if◌then◌else◌, Option, None, Some}
+use Rattle.std.specs.Prelude.{ℕ, ◌≡◌, ◌+◌, ◌-◌, ◌/◌, List, [], ◌∷◌, Bool, true, false, get_or, ltb, eqb, if◌then◌else◌, Option, None, Some}
+use Rattle.std.proofs.Common.{ap₂, arith}
 use Rattle.road.specs.File.{Road}
 use Rattle.road.specs.declared.Limits.{Limits}
 use Rattle.road.specs.declared.Contract.{Contract}
@@ -35,6 +36,24 @@ terrain_column Mountain = 2
 
 unfoldable pub speed : Class → Terrain → ℕ
 speed class terrain = get_or (get_or speeds (class_row class) []) (terrain_column terrain) 0
+
+-- the numbers by which a file names them
+abbrev pub class_number : Class → ℕ
+class_number class = class_row class + 1
+
+abbrev pub terrain_number : Terrain → ℕ
+terrain_number terrain = terrain_column terrain + 1
+
+-- the speed of the class and the terrain that two numbers name; 0 where a number names none
+unfoldable pub speed_at : (class terrain : ℕ) → ℕ
+speed_at class terrain = get_or (get_or speeds (class - 1) []) (terrain - 1) 0
+
+pub named_speed : (class : Class) (terrain : Terrain) → speed_at (class_number class) (terrain_number terrain) ≡ speed class terrain
+unfolding speed speed_at
+named_speed class terrain =
+    let row : class_number class - 1 ≡ class_row class = omega arith in
+    let column : terrain_number terrain - 1 ≡ terrain_column terrain = omega arith in
+    ap₂ (λ (r c : ℕ). get_or (get_or speeds r []) c 0) row column
 
 -- the mark for "-", "no such rule"
 abbrev pub no_rule : ℕ
