@@ -183,12 +183,6 @@ pub fn view_at(road: &AcceptedRoad, p: Place, x: u64) -> View
     View {
         place,
         joint: segment_parts::joint_of(piece.end, e.end, c.end, x),
-        segment: Segment {
-            piece,
-            sides: c.sides,
-            lane: i64::from(lane),
-            element: e.begin as i64,
-            curvature: e.curvature,
-        },
+        segment: segment_parts::segment_of(piece, c.sides, e.curvature, e.begin, lane),
     }
 }

@@ -7,10 +7,10 @@ ghost use Rattle.segment_parts.specs.Tangents.{first_place, next_place, SizedPla
 ghost use Rattle.segment_parts.specs.Pieces.{curve_from, curve_before, curve_after, straight_part, PieceFrom};
 ghost use Rattle.segment_parts.specs.Sides.{ramp_of, sides_of};
 ghost use Rattle.segment_parts.specs.Ends.{end_of, curvature_of};
-ghost use Rattle.segment_parts.specs.Segments.{joint_of};
+ghost use Rattle.segment_parts.specs.Segments.{segment_of, joint_of};
 
 use road::{Crossfall, Element, Tangent};
-use segment::{Curvature, End, Piece, Ramp, Sides};
+use segment::{Curvature, End, Piece, Ramp, Segment, Sides};
 
 // The place of a tangent: which it is, where it begins, the height there in millionths of a millimetre, and the half length and the grade before it.
 #[derive(Clone, Copy)]
@@ -223,7 +223,27 @@ pub fn curvature_of(before: Element, e: Element, after: Element) -> Curvature
     }
 }
 
-// ---- the next joint
+// ---- the segment, and the next joint
+
+// The segment of a piece of the profile, a pair of crossfall points and an element that begins at a station.
+pub fn segment_of(
+    piece: Piece,
+    sides: Sides,
+    curvature: Curvature,
+    element: u64,
+    lane: u32,
+) -> Segment
+    requires { element ≤ 100000000 }
+    ensures { result ≡ segment_of piece sides curvature element lane }
+{
+    Segment {
+        piece,
+        sides,
+        lane: i64::from(lane),
+        element: element as i64,
+        curvature,
+    }
+}
 
 // The first station behind x that the segment there does not serve: the least of the three ends. Where the element ends at x, x is T, and that is T + 1.
 pub fn joint_of(piece: u64, element: u64, point: u64, x: u64) -> u64
