@@ -1,13 +1,13 @@
 -- How far a recorded run has come after k calls: what is written down is the machine's run on those.
-use Rattle.std.proofs.Common.{◌≡◌, refl, sym, ap, ap₂, ◌∙◌, ℕ, suc, ◌+◌, ◌*◌, ◌<◌, ◌≤◌, List, [], ◌∷◌, ◌++◌, length, take, drop, set, get_or, arith, add-one, suc-mul, take_all, take-append-drop, length-set, length-append, length-drop, take-suc, take-suc-set, length-take-le, take_at, drop_at, mul-le-mul_right}
+use Rattle.std.proofs.Common.{◌≡◌, refl, sym, ap, ap₂, ◌∙◌, Bool, ℕ, suc, ◌+◌, ◌*◌, ◌<◌, ◌≤◌, List, [], ◌∷◌, ◌++◌, length, take, drop, set, get_or, map, arith, add-one, suc-mul, take_all, take-append-drop, length-set, length-append, length-drop, take-suc, take-suc-set, length-take-le, take_at, drop_at, mul-le-mul_right}
 use Rattle.std.proofs.lemmas.List.{map-append}
 use borrow.Rule.Slice.PartMut.{put_mid, post_of}
 use Rattle.road.specs.Machine as machine
 use Rattle.road.specs.Machine.{After, step, trace}
 use Rattle.laws_of_lines.specs.Buffer.{step-length}
-use Rattle.runs.specs.Answers.{answer_of}
+use Rattle.runs.specs.Answers.{answer_of, asks_row, answers_row}
 use Rattle.runs.specs.Calls.{call_of, calls_of, run_of}
-use Rattle.runs.specs.Recorded.{Recorded, last_buffer, seen_in}
+use Rattle.runs.specs.Recorded.{Recorded, RoutinesRecorded, last_buffer, seen_in}
 use Rattle.runs.specs.declared.Call.{Call}
 use Rattle.runs.specs.declared.Answer.{Answer}
 use Rattle.runs.proofs.Seen.{seen-front, seen_more, recorded}
@@ -61,6 +61,7 @@ pub record Progress (f b₀ : List ℕ) (calls : List Call) (k : ℕ) (b : List 
   pub frames-size : length fs ≡ length calls * length b₀
   pub buffer : b ≡ last_buffer b₀ (run_of f b₀ (take k calls))
   pub seen : seen_in (length b₀) (take k xs) fs ≡ run_of f b₀ (take k calls)
+  pub routines : RoutinesRecorded (take k calls) (take k xs)
 
 -- call k has its frame
 pub frame_fits : (k n size : ℕ) → k < n → k * size + size ≤ n * size
@@ -69,22 +70,25 @@ frame_fits k n size h = let h : suc k ≤ n = omega arith in omega (arith, mul-l
 -- no call yet
 pub none : {f b : List ℕ} {calls : List Call} {xs : List Answer} {fs : List ℕ} → length xs ≡ length calls → length fs ≡ length calls * length b → Progress f b calls 0 b xs fs
 unfolding run_of trace
-none a l = record { size = refl; answers-size = a; frames-size = l; buffer = refl; seen = refl }
+none a l = record { size = refl; answers-size = a; frames-size = l; buffer = refl; seen = refl; routines = refl }
 
 module _ {f b₀ : List ℕ} {calls : List Call} {k : ℕ} {b : List ℕ} {xs : List Answer} {fs : List ℕ} (p : Progress f b₀ calls k b xs fs) where
   -- one more: its answer, the buffer after it, and that buffer in its frame
   pub turn : (d : Call) (x : Answer) {b' frame : List ℕ} {width : ℕ} → k < length calls
-      → answer_of x ≡ (step f b (call_of (get_or calls k d))).answer → b' ≡ (step f b (call_of (get_or calls k d))).buffer
+      → answer_of x ≡ (step f b (call_of (get_or calls k d))).answer → answers_row x ≡ asks_row (call_of (get_or calls k d))
+      → b' ≡ (step f b (call_of (get_or calls k d))).buffer
       → frame ≡ b' → width ≡ length b₀
       → Progress f b₀ calls (k + 1) b' (set xs k x) (put_mid (k * length b₀) width fs frame)
-  turn d x {b'} h said left same wide =
+  turn d x {b'} h said own left same wide =
       let size = length b₀ in
       let c : Call = get_or calls k d in
       let t : After = step f b (call_of c) in
+      let written : take (k + 1) (set xs k x) ≡ take k xs ++ (x ∷ []) = rw (add-one k) (take-suc-set xs k x (omega (arith, p.answers-size))) in
+      let asked : take (k + 1) calls ≡ take k calls ++ (c ∷ []) = rw (add-one k) (take-suc calls k d h) in
       let room : k * size + size ≤ length fs = omega (arith, frame_fits k (length calls) size h, p.frames-size) in
       let long : length b' ≡ size = ap length left ∙ step-length f b (call_of c) ∙ p.size in
       let more : run_of f b₀ (take (k + 1) calls) ≡ run_of f b₀ (take k calls) ++ (t ∷ []) =
-      ap (run_of f b₀) (rw (add-one k) (take-suc calls k d h))
+      ap (run_of f b₀) asked
       ∙ run_more f b₀ (take k calls) c
       ∙ ap (λ l. run_of f b₀ (take k calls) ++ (step f l (call_of c) ∷ [])) (sym p.buffer)
       in
@@ -95,10 +99,16 @@ module _ {f b₀ : List ℕ} {calls : List Call} {k : ℕ} {b : List ℕ} {xs : 
         frames-size = length-put_mid (k * size) size fs b' room long ∙ p.frames-size;
         buffer = left ∙ sym (last_more b₀ (run_of f b₀ (take k calls)) t) ∙ ap (last_buffer b₀) (sym more);
         seen =
-            ap (λ l. seen_in size l (put_mid (k * size) size fs b')) (rw (add-one k) (take-suc-set xs k x (omega (arith, p.answers-size))))
+            ap (λ l. seen_in size l (put_mid (k * size) size fs b')) written
             ∙ frame_more size k (take k xs) x fs b' (length-take-le k xs (omega (arith, p.answers-size))) room long
             ∙ ap₂ (λ ts u. ts ++ (u ∷ [])) p.seen (ap₂ (λ y (l : List ℕ). record { answer = y; buffer = l }) said left)
             ∙ sym more;
+        routines =
+            ap (map answers_row) written
+            ∙ map-append answers_row (take k xs) (x ∷ [])
+            ∙ ap₂ (λ bs (t : Bool). bs ++ (t ∷ [])) p.routines own
+            ∙ sym (map-append asks_row (calls_of (take k calls)) (call_of c ∷ []))
+            ∙ sym (ap (map asks_row) (ap calls_of asked ∙ map-append call_of (take k calls) (c ∷ [])));
       })
 
   -- all of them
@@ -107,3 +117,9 @@ module _ {f b₀ : List ℕ} {calls : List Call} {k : ℕ} {b : List ℕ} {xs : 
       let all : take k calls ≡ calls = take_all k calls h in
       let whole : take k xs ≡ xs = take_all k xs (omega (arith, p.answers-size)) in
       recorded f b₀ calls b xs fs (p.frames-size ∙ ap (λ n. n * length b₀) (sym p.answers-size)) (rw all at p.buffer) (rw (all, whole) at p.seen)
+
+  pub done_routines : length calls ≤ k → RoutinesRecorded calls xs
+  done_routines h =
+      let all : take k calls ≡ calls = take_all k calls h in
+      let whole : take k xs ≡ xs = take_all k xs (omega (arith, p.answers-size)) in
+      rw (all, whole) at p.routines

@@ -22,7 +22,7 @@ use Rattle.laws_of_stations.specs.Visits.{row_at}
 use Rattle.stationing.specs.Routines.{row_written, row-accepted}
 use Rattle.runs.specs.Answers.{answer_of}
 use Rattle.runs.specs.Calls.{call_of, calls_of, lent, calls_back, run_of}
-use Rattle.runs.specs.Recorded.{Recorded, sized, last_buffer, frames_of, seen_in}
+use Rattle.runs.specs.Recorded.{Recorded, RoutinesRecorded, sized, last_buffer, frames_of, seen_in}
 use Rattle.runs.specs.RecordedRows.{Close, IsRow, BladeRecorded, TurnedAway}
 use Rattle.runs.specs.Listing.{ListingRecorded}
 use Rattle.runs.specs.declared.Call.{Call}
@@ -64,6 +64,11 @@ run-seen f b (c ∷ calls) size e =
     let rest = frames_of (run_of f t.buffer calls) in
     rw (take_at t.buffer rest size k, drop_at t.buffer rest size k, (answer_back f b (call_of c)).1, run-seen f t.buffer calls size k)
 
+answers_own : (f b : List ℕ) (calls : List Call) → RoutinesRecorded calls (answers-of f b calls)
+unfolding answers-of
+answers_own f b [] = refl
+answers_own f b (c ∷ calls) = rw ((answer_back f b (call_of c)).2, answers_own f (step f b (call_of c)).buffer calls)
+
 -- a record of the run on these calls
 pub record RunRecord (f b : List ℕ) (calls : List Call) : Type 0 where
   pub last : List ℕ
@@ -71,6 +76,7 @@ pub record RunRecord (f b : List ℕ) (calls : List Call) : Type 0 where
   pub frames : List ℕ
   pub fits : sized (length calls) (length answers) (length b) (length frames) ≡ true
   pub recorded : Recorded f b calls last answers frames
+  pub routines : RoutinesRecorded calls answers
 
 pub run-recorded : (f b : List ℕ) (calls : List Call) → RunRecord f b calls
 run-recorded f b calls =
@@ -84,6 +90,7 @@ run-recorded f b calls =
       frames = fs;
       fits = fit-sized (length calls) (length xs) (length b) (length fs) even full;
       recorded = recorded f b calls _ xs fs (full ∙ ap (λ n. n * length b) (sym even)) refl (run-seen f b calls (length b) refl);
+      routines = answers_own f b calls;
     }
 
 -- ---- any run on the empty file, which is refused "2 at 0"

@@ -1,8 +1,8 @@
 -- What the lent slices hold after a run: each answer, and every byte of the buffer after each call, one behind another.
 use Rattle.std.specs.Prelude.{ℕ, ◌*◌, Bool, ◌&&◌, ◌≡◌, List, [], ◌∷◌, ◌++◌, map, eqb, length, take, drop}
 use Rattle.road.specs.Machine.{After}
-use Rattle.runs.specs.Answers.{answer_of}
-use Rattle.runs.specs.Calls.{run_of}
+use Rattle.runs.specs.Answers.{answer_of, asks_row, answers_row}
+use Rattle.runs.specs.Calls.{calls_of, run_of}
 use Rattle.runs.specs.declared.Call.{Call}
 use Rattle.runs.specs.declared.Answer.{Answer}
 
@@ -27,6 +27,10 @@ pub record Recorded (f b : List ℕ) (calls : List Call) (b' : List ℕ) (xs : L
   pub answers : map answer_of xs ≡ map (λ (t : After). t.answer) (run_of f b calls)
   pub frames : fs ≡ frames_of (run_of f b calls)
   pub seen : seen_in (length b) xs fs ≡ run_of f b calls
+
+-- each answer is of the routine that its call asks
+abbrev pub RoutinesRecorded : List Call → List Answer → Type 0
+RoutinesRecorded calls xs = map answers_row xs ≡ map asks_row (calls_of calls)
 
 -- whether what is lent has the sizes that the record of a run takes, with this count of calls and this size of buffer
 abbrev pub sized : (count answers size frames : ℕ) → Bool

@@ -7,8 +7,8 @@ ghost use Rattle.file_numbers.specs.Reading.{refused};
 ghost use Rattle.road.specs.Rules.{accepted};
 ghost use Rattle.road.specs.Machine.{step};
 ghost use Rattle.runs.specs.Calls.{call_of};
-ghost use Rattle.runs.specs.Answers.{answer_of};
-ghost use Rattle.runs.specs.Recorded.{Recorded, sized};
+ghost use Rattle.runs.specs.Answers.{asks_row, answers_row, answer_of};
+ghost use Rattle.runs.specs.Recorded.{Recorded, RoutinesRecorded, sized};
 ghost use Rattle.runs.specs.RecordedRows.{BladeRecorded, TurnedAway};
 ghost use Rattle.runs.specs.Listing.{ListingRecorded};
 
@@ -37,6 +37,7 @@ impl Call {
     #[tactic(auto, unfolding(road::specs::Machine::step))]
     pub fn answer(self, file: &[u8], line: &mut [u8]) -> Answer
         ensures value { answer_of result ≡ (step file.now line.old (call_of self)).answer }
+        ensures routine { answers_row result ≡ asks_row (call_of self) }
         ensures line_after { line.new ≡ (step file.now line.old (call_of self)).buffer }
     {
         match self {
@@ -58,6 +59,7 @@ fn run_sized(
     requires answers { length answers.old ≡ length calls.now }
     requires frames { length frames.old ≡ length calls.now * length line.old }
     ensures recorded { Recorded file.now line.old calls.now line.new answers.new frames.new }
+    ensures routines { RoutinesRecorded calls.now answers.new }
     ensures blade { BladeRecorded file.now (length line.old) calls.now answers.new frames.new }
     ensures listing { ListingRecorded file.now line.old calls.now answers.new frames.new }
     ensures refused { (n p : ℕ) → accepted file.now ≡ refused n p → TurnedAway n p line.old calls.now line.new answers.new frames.new }
@@ -82,6 +84,7 @@ pub fn run(
 ) -> Result<(), OtherSizes>
     ensures sized { is_ok result ≡ sized (length calls.now) (length answers.old) (length line.old) (length frames.old) }
     ensures recorded { OnOk result (Recorded file.now line.old calls.now line.new answers.new frames.new) }
+    ensures routines { OnOk result (RoutinesRecorded calls.now answers.new) }
     ensures blade { OnOk result (BladeRecorded file.now (length line.old) calls.now answers.new frames.new) }
     ensures listing { OnOk result (ListingRecorded file.now line.old calls.now answers.new frames.new) }
     ensures refused { OnOk result ((n p : ℕ) → accepted file.now ≡ refused n p → TurnedAway n p line.old calls.now line.new answers.new frames.new) }
