@@ -39,16 +39,14 @@ pub fn is_wrong_link(e: &ElementAmong) -> bool
     e.before.is_clothoid() && e.earlier.is_arc() && are_same_turn(e.earlier.radius, e.after.radius)
 }
 
-// The radius of the arc of a clothoid that has one.
+// The radius of the arc of a clothoid that has one. Both radii are read first: a choice between the elements would keep each element of a pass in memory.
 #[tactic(auto, unfolding(road::specs::Rules::own_arc))]
 fn own_arc(before: &Element, after: &Element) -> i32
     ensures { result ≡ own_arc before.now after.now }
 {
-    if after.is_arc() {
-        after.radius
-    } else {
-        before.radius
-    }
+    let earlier = before.radius;
+    let later = after.radius;
+    if after.is_arc() { later } else { earlier }
 }
 
 // Whether an egg's length times both radii falls short of the square of the parameter times their difference.
