@@ -20,20 +20,21 @@ impl<R: Read> Read for Retrying<R> {
     }
 }
 
-// Prints the list of the file that standard input has; what failed, where something did.
+// Prints the list of the file that standard input has; the line that says what failed, where something did.
 fn run(rt: &HostRuntime) -> Result<(), &'static str> {
     // one byte more than a file may have tells that it is too long
     let mut file = [0u8; 8193];
     let count = streams::fill(&mut Retrying(rt.stdin()), &mut file).map_err(
-        |_| "standard input cannot be read",
+        |_| "list: standard input cannot be read\n",
     )?;
     list_output::print_list(&mut rt.stdout(), &file[..count]).map_err(
-        |_| "the list was not written whole",
+        |_| "list: the list was not written whole\n",
     )
 }
 
 fn main(rt: HostRuntime) {
-    if let Err(what) = run(&rt) {
-        let _ = eprintln!(rt; "list: {what}");
+    if let Err(line) = run(&rt) {
+        // no macro: it tries an interrupted write again without end
+        let _ = streams::write_whole(&mut rt.stderr(), line.as_bytes());
     }
 }

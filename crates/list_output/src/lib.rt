@@ -67,13 +67,22 @@ pub fn print_rows<W: Write>(output: &mut W, road: &AcceptedRoad, out: &mut [u8])
     Ok(())
 }
 
+// Prints the rows of an accepted road by a buffer made here: a refused file pays for none.
+fn print_accepted<W: Write>(output: &mut W, road: &AcceptedRoad) -> io::Result<()>
+    ensures whole { OnOk result (Appends (W.contents output.old) (W.contents output.new) (lines_from road.now (Some 0))) }
+    ensures beginning { Begins (lines_from road.now (Some 0)) (W.contents output.old) (W.contents output.new) }
+{
+    let mut out = [0; 131072];
+    print_rows(output, road, &mut out)
+}
+
 // Prints the list of a file, or its refusal, up to the end or to a write that fails. What was written is the list, or its beginning.
 pub fn print_list<W: Write>(output: &mut W, file: &[u8]) -> io::Result<()>
     ensures whole { OnOk result (Appends (W.contents output.old) (W.contents output.new) (list_of file.now)) }
     ensures beginning { Begins (list_of file.now) (W.contents output.old) (W.contents output.new) }
 {
     match acceptance::accept(file) {
-        Ok(road) => print_rows(output, &road, &mut [0; 131072]),
+        Ok(road) => print_accepted(output, &road),
         Err(refusal) => print_refusal(output, refusal),
     }
 }

@@ -69,27 +69,36 @@ fn show_answer(rt: &impl Print, answer: Answer) -> io::Result<()> {
     }
 }
 
-// Two hexadecimal digits a byte: std's formats print no slice so.
-fn show_bytes(rt: &impl Print, bytes: &[u8]) -> io::Result<()> {
-    for b in bytes {
-        print!(rt; "{b:02x}")?;
-    }
-    println!(rt; "")
+// Two hexadecimal digits.
+fn hex(byte: u8) -> [u8; 2] {
+    let digits = b"0123456789abcdef";
+    [
+        digits[usize::from(byte >> 4)],
+        digits[usize::from(byte & 15)],
+    ]
 }
 
-// ---- the runs; what is not written whole does not hold up what follows
+// ---- the runs; a write that fails holds up no call and no other write
 
-fn show_buffer(rt: &impl Print, line: &[u8]) -> io::Result<()> {
-    print!(rt; "buffer ")?;
-    show_bytes(rt, line)
+// A write for each byte; its digits are made by hand, since a format for each took a quarter more time.
+fn show_bytes(rt: &impl Print, bytes: &[u8]) {
+    for b in bytes {
+        let _ = rt.write_all(&hex(*b));
+    }
+    let _ = println!(rt; "");
+}
+
+fn show_buffer(rt: &impl Print, line: &[u8]) {
+    let _ = print!(rt; "buffer ");
+    show_bytes(rt, line);
 }
 
 // One call, its answer, and the buffer after it.
-fn make_call(rt: &impl Print, file: &[u8], call: Call, line: &mut [u8]) -> io::Result<()> {
-    show_call(rt, call)?;
-    show_answer(rt, call.answer(file, line))?;
-    print!(rt; " | ")?;
-    show_bytes(rt, line)
+fn make_call(rt: &impl Print, file: &[u8], call: Call, line: &mut [u8]) {
+    let _ = show_call(rt, call);
+    let _ = show_answer(rt, call.answer(file, line));
+    let _ = print!(rt; " | ");
+    show_bytes(rt, line);
 }
 
 // The calls of a run, and the bytes behind them; a run whose buffer is over 256 bytes is not made.
@@ -103,11 +112,11 @@ fn make_run<'a>(rt: &impl Print, run: Run<'a>) -> Option<&'a [u8]>
     }
     let line = &mut space[..size];
     line.copy_from_slice(run.line);
-    let _ = show_buffer(rt, line);
+    show_buffer(rt, line);
     let mut calls = run.calls;
     for _ in 0..run.count {
         let (call, rest) = split_call(calls);
-        let _ = make_call(rt, run.file, call, line);
+        make_call(rt, run.file, call, line);
         calls = rest;
     }
     Some(calls)

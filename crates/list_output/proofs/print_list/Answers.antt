@@ -5,7 +5,7 @@ use Rattle.list_output.proofs.print_list.Goals as goal
 pub returns-in-Ok : goal.returns-in-Ok
 returns-in-Ok g c =
     let list = accepted_lines _ c.in-Ok.ensures in
-    let w = c.print_rows.ensures in
+    let w = c.print_accepted.ensures in
     record { whole = rw list at w.whole; beginning = rw list at w.beginning }
 
 pub returns-in-Err : goal.returns-in-Err
