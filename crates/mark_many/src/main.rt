@@ -3,6 +3,8 @@
 
 #![tactic(auto)]
 
+ghost use Rattle.std.specs.Prelude.{◌≤◌, IfSome};
+
 use road::Alignment;
 use speed_marks::TRIED_SPEEDS;
 
@@ -26,19 +28,26 @@ impl From<u8> for Measured {
 }
 
 // How many elements are read.
-fn read(file: &[u8]) -> Option<u64> {
+fn read(file: &[u8]) -> Option<u64>
+    ensures { IfSome result (λ n. n ≤ 200) }
+{
     alignment::read(file)
         .ok()
         .map(|a| a.elements().len() as u64)
 }
 
 // The marks.
-fn marked(file: &[u8]) -> Option<u64> {
+#[tactic(auto, using(crate::proofs::Few::few))]
+fn marked(file: &[u8]) -> Option<u64>
+    ensures { IfSome result (λ set. set ≤ 127) }
+{
     speed_marks::marks(file).ok().map(u64::from)
 }
 
 // At how many of the seven speeds a road passes; then its step is changed by one.
-fn judged(a: &mut Alignment) -> u64 {
+fn judged(a: &mut Alignment) -> u64
+    ensures { result ≤ 7 }
+{
     let mut head = a.head();
     let passed = TRIED_SPEEDS
         .iter()

@@ -91,21 +91,31 @@ fn spread(end: u64) -> [u64; PEGS]
     array::from_fn(|i| end * i as u64 / 1999)
 }
 
+// How many calls pass n times over the pegs.
+fn single_calls(n: u16) -> u64
+    ensures { result ≤ 1_000_000_000 }
+{
+    PEGS as u64 * u64::from(n)
+}
+
 // The pegs are computed once, before the calls.
 fn print_answer(rt: &impl Print, measured: Measured, n: u16, file: &mut [u8]) -> io::Result<()> {
     let pegs = spread(total(file).unwrap_or(0));
     let mut out = [0u8; ROOM];
-    let n = u64::from(n);
+    let often = u64::from(n);
     let sum = match measured {
-        Measured::Judge => many_calls::sum_of(file, n, |file, _| total(file)),
-        Measured::Rows => many_calls::sum_of(file, n, |file, _| put_rows(file, &pegs, &mut out)),
+        Measured::Judge => many_calls::sum_of(file, often, |file, _| total(file)),
+        Measured::Rows => many_calls::sum_of(
+            file,
+            often,
+            |file, _| put_rows(file, &pegs, &mut out),
+        ),
         Measured::SingleRows => {
-            let calls = PEGS as u64 * n;
-            many_calls::sum_of(file, calls, |file, place| {
+            many_calls::sum_of(file, single_calls(n), |file, place| {
                 put_row(file, &pegs, place, &mut out)
             })
         }
-        Measured::List => many_calls::sum_of(file, n, |file, _| put_list(file, &mut out)),
+        Measured::List => many_calls::sum_of(file, often, |file, _| put_list(file, &mut out)),
         Measured::Print => {
             let length = pegs::peg_rows(file, &pegs, &mut out).unwrap_or(0);
             return rt.write_all(&out[..length.min(out.len())]);
