@@ -16,14 +16,16 @@ impl<'a> Reader<'a> {
 
     // A reader of the caller's bytes, at the first of them.
     pub fn new(src: &'a [u8]) -> Self
-        ensures { standing result ≡ record { bytes = src.entry.now; place = 0 } }
+        ensures src { result.src ≡ src.entry }
+        ensures standing { standing result ≡ record { bytes = src.entry.now; place = 0 } }
     {
         Reader::at(src, 0)
     }
 
     // A reader of the caller's bytes, at a place, which may lie behind the last of them.
     pub fn at(src: &'a [u8], place: usize) -> Self
-        ensures { standing result ≡ record { bytes = src.entry.now; place = place } }
+        ensures src { result.src ≡ src.entry }
+        ensures standing { standing result ≡ record { bytes = src.entry.now; place = place } }
     {
         Reader { src, place }
     }
@@ -44,7 +46,8 @@ impl<'a> Reader<'a> {
 
     // The number at the reading place, which moves past it; a number at fault is not passed.
     pub fn number(&mut self) -> Option<u32>
-        ensures { Passes (standing self.old) (standing self.new) result }
+        ensures src { self.new.src ≡ self.old.src }
+        ensures passes { Passes (standing self.old) (standing self.new) result }
     {
         let number = file_numbers::read_number(self.src, self.place)?;
         self.place = number.next;
