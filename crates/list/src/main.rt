@@ -34,7 +34,7 @@ fn run(rt: &HostRuntime) -> Result<(), &'static str> {
 
 fn main(rt: HostRuntime) {
     if let Err(line) = run(&rt) {
-        // no macro: it tries an interrupted write again without end
+        // no macro: it tries an interrupted write again
         let _ = streams::write_whole(&mut rt.stderr(), line.as_bytes());
     }
 }
