@@ -5,6 +5,9 @@
 ghost use Rattle.std.specs.Prelude.{◌≡◌};
 ghost use Rattle.days.specs.Day.{leap_year, month_days, is_day};
 
+// The days of each month of a year that is no leap year, from month 1 on.
+pub const MONTHS: [u32; 13] = [0, 31, 28, 31, 30, 31, 30, 31, 31, 30, 31, 30, 31];
+
 #[tactic(auto, unfolding(crate::specs::Day::leap_year))]
 fn is_leap_year(year: u32) -> bool
     ensures { result ≡ leap_year year }
@@ -17,12 +20,10 @@ fn is_leap_year(year: u32) -> bool
 fn month_days(year: u32, month: u32) -> u32
     ensures { result ≡ month_days year month }
 {
-    match month {
-        2 => if is_leap_year(year) { 29 } else { 28 },
-        4 | 6 | 9 | 11 => 30,
-        1..=12 => 31,
-        _ => 0,
+    if month == 2 && is_leap_year(year) {
+        return 29;
     }
+    MONTHS.get(month as usize).copied().unwrap_or(0)
 }
 
 // Whether a number is a day from 19500101 to 20991231.
