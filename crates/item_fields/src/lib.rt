@@ -18,7 +18,7 @@ pub fn read_element(r: &mut Reader) -> Result<Element, Refusal>
     // Only an arc has a radius.
     let radius = match kind {
         Kind::Arc => read_sized(r, 10_000..=10_000_000)?,
-        Kind::Straight | Kind::Clothoid => 0,
+        Kind::Straight | Kind::Clothoid | Kind::Other => 0,
     };
     Ok(Element {
         kind,

@@ -16,7 +16,7 @@ use Rattle.road.specs.Kinds.{BehindArc, last, reversing, egg, AllowedOrder, stra
 use Rattle.road.specs.Rules.{may_follow, may_stand, wrong_kind, element_earlier, element_before, road_test, first_broken}
 use Rattle.laws_of_acceptance.specs.Judging.{Keeps, none_keeps, keeps_none}
 use Rattle.road.specs.declared.Kind.{Kind}
-use Rattle.road.specs.declared.Kind.TheVariants.{Straight, Arc, Clothoid}
+use Rattle.road.specs.declared.Kind.TheVariants.{Straight, Arc, Clothoid, Other}
 use Rattle.road.specs.declared.Element.{Element}
 use Rattle.road.specs.declared.Rule.TheVariants as rule
 use Rattle.road.specs.declared.ElementRule.TheVariants as element
@@ -101,24 +101,28 @@ mutual
   from-straight (Straight ∷ ks) i a h = absurd cc
   from-straight (Arc ∷ ks) i a h = absurd cc
   from-straight (Clothoid ∷ ks) i a h = bent (from-entry ks (suc i) Straight refl h)
+  from-straight (Other ∷ ks) i a h = absurd cc
 
   from-entry : (ks : List Kind) (i : ℕ) (a : Kind) → arc_kind a ≡ false → stop (suc i) a Clothoid ks ≡ None → Turn ks
   from-entry [] i a o h = absurd cc
   from-entry (Straight ∷ ks) i a o h = absurd (let n = rw o at h in cc)
   from-entry (Arc ∷ ks) i a o h = from-arc ks (suc i) h
   from-entry (Clothoid ∷ ks) i a o h = absurd (let n = rw o at h in cc)
+  from-entry (Other ∷ ks) i a o h = absurd (let n = rw o at h in cc)
 
   from-arc : (ks : List Kind) (i : ℕ) → stop (suc i) Clothoid Arc ks ≡ None → Turn (Arc ∷ ks)
   from-arc [] i h = absurd cc
   from-arc (Straight ∷ ks) i h = absurd cc
   from-arc (Arc ∷ ks) i h = absurd cc
   from-arc (Clothoid ∷ ks) i h = from_exit ks (suc i) h
+  from-arc (Other ∷ ks) i h = absurd cc
 
   from_exit : (ks : List Kind) (i : ℕ) → stop (suc i) Arc Clothoid ks ≡ None → Turn (Arc ∷ Clothoid ∷ ks)
   from_exit [] i h = absurd cc
   from_exit (Straight ∷ ks) i h = turn last (from-straight ks (suc i) Clothoid h)
   from_exit (Arc ∷ ks) i h = linked (from-arc ks (suc i) h)
   from_exit (Clothoid ∷ ks) i h = reversed (from-entry ks (suc i) Clothoid refl h)
+  from_exit (Other ∷ ks) i h = absurd cc
 
 passing_allowed : (ks : List Kind) → stop 0 Straight Straight ks ≡ None → AllowedOrder ks
 unfolding stop
@@ -126,6 +130,7 @@ passing_allowed [] h = absurd cc
 passing_allowed (Straight ∷ ks) h = from-straight ks 0 Straight h
 passing_allowed (Arc ∷ ks) h = absurd cc
 passing_allowed (Clothoid ∷ ks) h = absurd cc
+passing_allowed (Other ∷ ks) h = absurd cc
 
 -- ---- where it stops is the first wrong place
 

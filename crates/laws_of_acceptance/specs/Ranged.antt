@@ -12,6 +12,11 @@ use Rattle.file_numbers.specs.Number.{number}
 use Rattle.days.specs.Day.{is_day}
 use Rattle.road.specs.File.{Road, fitting, field, choice, kind_of, arc_kind, class_of, terrain_of, date, number_is, dated_fields, contract_fields, signed, between, in_size, radius, element, half, tangent, point, head_fields, plan_fields, Profile, profile_fields, crossfall_fields, road_of, fields, ended, read}
 use Rattle.file_numbers.specs.Number.{signed_of}
+use Rattle.road.specs.Limits.{class_number, terrain_number}
+use Rattle.road.specs.declared.Kind.{Kind}
+use Rattle.road.specs.declared.Kind.TheVariants as kinds
+use Rattle.road.specs.declared.Class.{Class}
+use Rattle.road.specs.declared.Terrain.{Terrain}
 use Rattle.road.specs.declared.Contract.{Contract}
 use Rattle.road.specs.declared.Contract.TheVariants.{Undated, Dated}
 use Rattle.road.specs.declared.Head.{Head}
@@ -47,6 +52,38 @@ pub signed-fits : (fits : ℤ → Bool) (s : List ℕ) (at : ℕ) {v : ℤ} {nex
 unfolding signed
 signed-fits fits s at e = on (number s at) _ e λ n next _ h. fits_read 3 fits (signed_of n) at s next h
 
+-- what a number in its range stands for
+of_choice : {A : Type 0} (P : A → Type 0) (low high : ℕ) (of : ℕ → A) → ((n : ℕ) → Within low high n → P (of n)) → (s : List ℕ) (at : ℕ) {a : A} {next : ℕ} → choice low high of s at ≡ got a next → P a
+unfolding choice
+of_choice P low high of law s at {a} e =
+    on (field low high s at) _ e λ n next f h.
+    let same : of n ≡ a = cc in
+    subst P same (law n (field-within low high s at f))
+
+-- "kind 0 straight, 1 arc, 2 clothoid"
+kind_named : (n : ℕ) → Within 0 2 n → kind_of n ≡ kinds.Other → ⊥
+kind_named zero w e = cc
+kind_named (suc zero) w e = cc
+kind_named (suc (suc zero)) w e = cc
+kind_named (suc (suc (suc n))) w e = omega (arith, w.high)
+
+-- "class 1 long-distance, 2 connecting, 3 collecting, 4 access"
+class_named : (n : ℕ) → Within 1 4 n → Within 1 4 (class_number (class_of n))
+class_named zero w = absurd (omega (arith, w.low))
+class_named (suc zero) w = w
+class_named (suc (suc zero)) w = w
+class_named (suc (suc (suc zero))) w = w
+class_named (suc (suc (suc (suc zero)))) w = w
+class_named (suc (suc (suc (suc (suc n))))) w = absurd (omega (arith, w.high))
+
+-- "terrain 1 flat, 2 hilly, 3 mountain"
+terrain_named : (n : ℕ) → Within 1 3 n → Within 1 3 (terrain_number (terrain_of n))
+terrain_named zero w = absurd (omega (arith, w.low))
+terrain_named (suc zero) w = w
+terrain_named (suc (suc zero)) w = w
+terrain_named (suc (suc (suc zero))) w = w
+terrain_named (suc (suc (suc (suc n)))) w = absurd (omega (arith, w.high))
+
 -- ---- the three lists
 
 pub record Items {A : Type 0} (P : A → Type 0) (n : ℕ) (l : List A) : Type 0 where
@@ -80,6 +117,7 @@ other-radius true s at e q = absurd cc
 other-radius false s at e q = cc
 
 pub record ElementRange (e : Element) : Type 0 where
+  pub kind : e.kind ≡ kinds.Other → ⊥
   pub length : Within 1 10_000_000 e.length
   pub radius : RadiusRange e
 
@@ -90,7 +128,7 @@ element_range s at {e} h =
     on (field 1 10_000_000 s a) _ h1 λ long b eb h2.
     on (radius (arc_kind kind) s b) _ h2 λ r c ec h3.
     let same : record { kind = kind; length = long; radius = r } ≡ e = cc in
-    subst ElementRange same (record { length = field-within 1 10_000_000 s a eb; radius = record { arc = arc-radius (arc_kind kind) s b ec; other = other-radius (arc_kind kind) s b ec } })
+    subst ElementRange same (record { kind = of_choice (λ (k : Kind). k ≡ kinds.Other → ⊥) 0 2 kind_of kind_named s at ea; length = field-within 1 10_000_000 s a eb; radius = record { arc = arc-radius (arc_kind kind) s b ec; other = other-radius (arc_kind kind) s b ec } })
 
 -- from low to high, as the tests of the reader have it
 abs_between : (n m : ℕ) (v : ℤ) → T (between (negsuc n) (pos m) v) → suc n ≤ m → nat_abs v ≤ m
@@ -187,6 +225,8 @@ contract_range s at {c} {next} e = go (number_is 9 s at) e
 
 pub record HeadRange (h : Head) : Type 0 where
   pub contract : ContractRange h.contract
+  pub class : Within 1 4 (class_number h.class)
+  pub terrain : Within 1 3 (terrain_number h.terrain)
   pub step : Within 1000 100_000 h.step
   pub ramp : Within 1 20_000 h.ramp
 
@@ -199,7 +239,7 @@ head_range s at h next e =
     on (field 1000 100_000 s b) _ h2 λ step c ec h3.
     on (field 1 20_000 s c) _ h3 λ ramp d ed h4.
     let same : record { contract = contract; class = class; terrain = terrain; step = step; ramp = ramp } ≡ h = cc in
-    subst HeadRange same (record { contract = contract_range s at ez; step = field-within 1000 100_000 s b ec; ramp = field-within 1 20_000 s c ed })
+    subst HeadRange same (record { contract = contract_range s at ez; class = of_choice (λ (c : Class). Within 1 4 (class_number c)) 1 4 class_of class_named s z ea; terrain = of_choice (λ (t : Terrain). Within 1 3 (terrain_number t)) 1 3 terrain_of terrain_named s a eb; step = field-within 1000 100_000 s b ec; ramp = field-within 1 20_000 s c ed })
 
 -- a count in its range, and as many items
 pub record Counted {A : Type 0} (P : A → Type 0) (low high : ℕ) (l : List A) : Type 0 where

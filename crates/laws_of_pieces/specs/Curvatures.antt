@@ -11,6 +11,7 @@ use Rattle.integers.specs.Fraction.{Frac, ◌÷◌, whole, ◌+ᶠ◌, ◌-ᶠ�
 use Rattle.integers.specs.Values.{positive-mul, same-value, other_way, ◌then◌}
 use Rattle.road.specs.File.{Road}
 use Rattle.road.specs.declared.Kind.{Kind}
+use Rattle.road.specs.declared.Kind.TheVariants as kinds
 use Rattle.road.specs.declared.Kind.TheVariants.{Straight, Arc, Clothoid}
 use Rattle.road.specs.Exact.{blank_element, element_of, element_start, element_at, is_straight, is_arc, is_clothoid, arc_curvature, end_curvature, start_curvature, clothoid_curvature, curvature_on, curvature, from◌to◌}
 use Rattle.road.specs.Rules.{element_before}
@@ -85,14 +86,15 @@ module _ (r : Road) (i : ℕ) where
   on-clothoid s e = rw e
 
   -- a straight's and an arc's own
-  pub on-own : (s : ℕ) → is_clothoid (element_of r i) ≡ false → curvature_on r i s ≡ end_curvature r i
+  pub on-own : (s : ℕ) → ((element_of r i).kind ≡ kinds.Other → ⊥) → is_clothoid (element_of r i) ≡ false → curvature_on r i s ≡ end_curvature r i
   unfolding curvature_on end_curvature
-  on-own s o = go (element_of r i).kind refl
+  on-own s named o = go (element_of r i).kind refl
     where
       go : (k : Kind) → (element_of r i).kind ≡ k → curvature_on r i s ≡ end_curvature r i
       go Straight e = rw e
       go Arc e = rw e
       go Clothoid e = absurd (both_ways (is_clothoid (element_of r i)) o (rw e))
+      go kinds.Other e = absurd (named e)
 
   end_zero : is_arc (element_of r i) ≡ false → end_curvature r i ≡ whole (pos 0)
   unfolding end_curvature
@@ -181,11 +183,11 @@ module _ {r : Road} (A : Accepted r) where
   elements_meet i s h e = go (element_of r i).kind refl
     where
       into : Stands r Clothoid (suc i) → is_clothoid (element_of r i) ≡ false → curvature_on r i s ≈ᶠ curvature_on r (suc i) s
-      into c o = same-value (element-positive i s (omega arith)) (on-own r i s o) then clothoid-after i s h e c.is
+      into c o = same-value (element-positive i s (omega arith)) (on-own r i s (element_in A i (omega arith)).kind o) then clothoid-after i s h e c.is
 
       -- 0 where two clothoids meet
       behind : (element_of r i).kind ≡ Clothoid → (b : Bool) → is_clothoid (element_of r (suc i)) ≡ b → curvature_on r i s ≈ᶠ curvature_on r (suc i) s
-      behind k false o = clothoid-before i s h e k then same-value (end-positive (suc i)) (sym (on-own r (suc i) s o))
+      behind k false o = clothoid-before i s h e k then same-value (end-positive (suc i)) (sym (on-own r (suc i) s (element_in A (suc i) h).kind o))
       behind k true o =
           let q = is-clothoid-kind (element_of r (suc i)).kind o in
           clothoid-before i s h e k then same-value (end-positive (suc i)) (end_zero r (suc i) (rw q) ∙ sym (end_zero r i (rw k))) then clothoid-after i s h e q
@@ -194,6 +196,7 @@ module _ {r : Road} (A : Accepted r) where
       go Straight k = into (order.straight i (record { within = omega arith; is = k }) h) (rw k)
       go Arc k = into (order.arc i (record { within = omega arith; is = k })) (rw k)
       go Clothoid k = behind k (is_clothoid (element_of r (suc i))) refl
+      go kinds.Other k = absurd ((element_in A i (omega arith)).kind k)
 
   -- the exact curvature at a station is that of any element that has the station
   elements : EndToEnd (element_start r) (length r.plan) (curvature_on r)

@@ -155,7 +155,7 @@ impl Numbered for Terrain {
     }
 }
 
-// The speed of a class and a terrain; 0 where a number names none.
+// The speed of a class and a terrain. The number 0 counts as 1, and past the table the speed is 0.
 #[tactic(auto, unfolding(road::specs::Limits::speed_at))]
 pub fn speed_of<C: Numbered, T: Numbered>(class: C, terrain: T) -> u32
     ensures { result ≡ speed_at (C.number class) (T.number terrain) }

@@ -1,2 +1,3 @@
 pub mod Attained
 pub mod Pushed
+pub mod Numbers

@@ -7,10 +7,13 @@ use Rattle.days.specs.Day.{is_day}
 use Rattle.road.specs.declared.Contract.{Contract}
 use Rattle.road.specs.declared.Contract.TheVariants.{Undated, Dated}
 use Rattle.road.specs.declared.Kind.{Kind}
+use Rattle.road.specs.declared.Kind.TheVariants as kinds
 use Rattle.road.specs.declared.Kind.TheVariants.{Straight, Arc, Clothoid}
 use Rattle.road.specs.declared.Class.{Class}
+use Rattle.road.specs.declared.Class.TheVariants as classes
 use Rattle.road.specs.declared.Class.TheVariants.{LongDistance, Connecting, Collecting, Access}
 use Rattle.road.specs.declared.Terrain.{Terrain}
+use Rattle.road.specs.declared.Terrain.TheVariants as terrains
 use Rattle.road.specs.declared.Terrain.TheVariants.{Flat, Hilly, Mountain}
 use Rattle.road.specs.declared.Head.{Head}
 use Rattle.road.specs.declared.Element.{Element}
@@ -53,24 +56,27 @@ between low high v = le_z low v && le_z v high
 abbrev pub in_size : ℕ → ℕ → ℤ → Bool
 in_size low high v = leb low (nat_abs v) && leb (nat_abs v) high
 
--- "kind 0 straight, 1 arc, 2 clothoid"
+-- "kind 0 straight, 1 arc, 2 clothoid"; any other number is none of them
 abbrev pub kind_of : ℕ → Kind
-kind_of n = if eqb n 0 then Straight else (if eqb n 1 then Arc else Clothoid)
+kind_of n = if eqb n 0 then Straight else (if eqb n 1 then Arc else (if eqb n 2 then Clothoid else kinds.Other))
 
 abbrev pub straight_kind : Kind → Bool
 straight_kind Straight = true
 straight_kind Arc = false
 straight_kind Clothoid = false
+straight_kind kinds.Other = false
 
 abbrev pub arc_kind : Kind → Bool
 arc_kind Straight = false
 arc_kind Arc = true
 arc_kind Clothoid = false
+arc_kind kinds.Other = false
 
 abbrev pub clothoid_kind : Kind → Bool
 clothoid_kind Straight = false
 clothoid_kind Arc = false
 clothoid_kind Clothoid = true
+clothoid_kind kinds.Other = false
 
 -- "for an arc a signed radius, 10,000 to 10,000,000 in size"
 abbrev pub radius : Bool → Reading ℤ
@@ -125,13 +131,13 @@ dated_fields = do
 unfoldable pub contract_fields : Reading Contract
 contract_fields s at = elim (number_is 9 s at) [ true ↦ dated_fields s at | false ↦ give Undated s at ]
 
--- "class 1 long-distance, 2 connecting, 3 collecting, 4 access"
+-- "class 1 long-distance, 2 connecting, 3 collecting, 4 access"; any other number is none of them
 abbrev pub class_of : ℕ → Class
-class_of n = if eqb n 1 then LongDistance else (if eqb n 2 then Connecting else (if eqb n 3 then Collecting else Access))
+class_of n = if eqb n 1 then LongDistance else (if eqb n 2 then Connecting else (if eqb n 3 then Collecting else (if eqb n 4 then Access else classes.Other)))
 
--- "terrain 1 flat, 2 hilly, 3 mountain"
+-- "terrain 1 flat, 2 hilly, 3 mountain"; any other number is none of them
 abbrev pub terrain_of : ℕ → Terrain
-terrain_of n = if eqb n 1 then Flat else (if eqb n 2 then Hilly else Mountain)
+terrain_of n = if eqb n 1 then Flat else (if eqb n 2 then Hilly else (if eqb n 3 then Mountain else terrains.Other))
 
 -- "class 1 long-distance, 2 connecting, 3 collecting, 4 access; terrain 1 flat, 2 hilly, 3 mountain; step 1,000 to 100,000; ramp limit 1 to 20,000 ppm"
 unfoldable pub head_fields : Reading Head

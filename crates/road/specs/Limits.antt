@@ -8,8 +8,10 @@ use Rattle.road.specs.declared.Contract.TheVariants.{Undated, Dated}
 use Rattle.road.specs.declared.LeastClothoid.{LeastClothoid}
 use Rattle.road.specs.declared.LeastClothoid.TheVariants.{Parameter, Length}
 use Rattle.road.specs.declared.Class.{Class}
+use Rattle.road.specs.declared.Class.TheVariants as classes
 use Rattle.road.specs.declared.Class.TheVariants.{LongDistance, Connecting, Collecting, Access}
 use Rattle.road.specs.declared.Terrain.{Terrain}
+use Rattle.road.specs.declared.Terrain.TheVariants as terrains
 use Rattle.road.specs.declared.Terrain.TheVariants.{Flat, Hilly, Mountain}
 use Rattle.road.specs.declared.Head.{Head}
 
@@ -22,29 +24,31 @@ speeds =
     ∷ (60 ∷ 50 ∷ 40 ∷ [])
     ∷ []
 
--- the row of a class, and the column of a terrain
+-- the row of a class, and the column of a terrain; any other stands past the table
 abbrev pub class_row : Class → ℕ
 class_row LongDistance = 0
 class_row Connecting = 1
 class_row Collecting = 2
 class_row Access = 3
+class_row classes.Other = 4
 
 abbrev pub terrain_column : Terrain → ℕ
 terrain_column Flat = 0
 terrain_column Hilly = 1
 terrain_column Mountain = 2
+terrain_column terrains.Other = 3
 
 unfoldable pub speed : Class → Terrain → ℕ
 speed class terrain = get_or (get_or speeds (class_row class) []) (terrain_column terrain) 0
 
--- the numbers by which a file names them
+-- the numbers by which a file names them; any other has one past these
 abbrev pub class_number : Class → ℕ
 class_number class = class_row class + 1
 
 abbrev pub terrain_number : Terrain → ℕ
 terrain_number terrain = terrain_column terrain + 1
 
--- the speed of the class and the terrain that two numbers name; 0 where a number names none
+-- the speed of the class and the terrain that two numbers name; the number 0 counts as 1, and past the table the speed is 0
 unfoldable pub speed_at : (class terrain : ℕ) → ℕ
 speed_at class terrain = get_or (get_or speeds (class - 1) []) (terrain - 1) 0
 

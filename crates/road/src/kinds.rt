@@ -2,7 +2,7 @@
 
 ghost use Rattle.std.specs.Prelude.{◌≡◌, ◌<◌, ◌≤◌, ◌-◌, ok_or, slice_get, Err};
 ghost use Rattle.road.specs.File.{kind_of, class_of, terrain_of};
-ghost use Rattle.road.specs.Limits.{class_row, terrain_column};
+ghost use Rattle.road.specs.Limits.{class_row, terrain_column, class_number, terrain_number};
 ghost use Rattle.road.specs.Exact.{is_straight, is_arc, is_clothoid};
 ghost use Rattle.road.specs.Faults.{named};
 
@@ -63,20 +63,22 @@ impl TryFrom<u32> for Terrain {
 }
 
 impl Class {
-    // Its row in the table of speeds.
+    // Its row in the table of speeds; past the last one for `Other`.
     pub fn row(self) -> usize
         ensures row { result ≡ class_row self }
-        ensures within { result < 4 }
+        ensures within { class_number self ≤ 4 → result < 4 }
+        ensures most { result ≤ 4 }
     {
         self as usize
     }
 }
 
 impl Terrain {
-    // Its column in the table of speeds.
+    // Its column in the table of speeds; past the last one for `Other`.
     pub fn column(self) -> usize
         ensures column { result ≡ terrain_column self }
-        ensures within { result < 3 }
+        ensures within { terrain_number self ≤ 3 → result < 3 }
+        ensures most { result ≤ 3 }
     {
         self as usize
     }

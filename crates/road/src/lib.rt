@@ -9,12 +9,13 @@ mod refusal;
 pub use alignment::Alignment;
 pub use refusal::{Fault, Refusal};
 
-// What an element of the plan is.
+// What an element of the plan is. A file names the first three; `Other` is none of them, and no file has it.
 #[derive(Clone, Copy, Debug, PartialEq, Eq)]
 pub enum Kind {
     Straight,
     Arc,
     Clothoid,
+    Other,
 }
 
 // An element of the plan. The radius of what is no arc is 0, which is no turn.
@@ -84,21 +85,23 @@ pub enum LeastClothoid {
     Length(u32),
 }
 
-// The class of a road, in the order of the table of speeds.
+// The class of a road, in the order of the table of speeds. A file names the first four; `Other` stands past the table, and no file has it.
 #[derive(Clone, Copy, Debug, PartialEq, Eq)]
 pub enum Class {
     LongDistance,
     Connecting,
     Collecting,
     Access,
+    Other,
 }
 
-// The terrain, in the order of the table of speeds.
+// The terrain, in the order of the table of speeds. A file names the first three; `Other` stands past the table, and no file has it.
 #[derive(Clone, Copy, Debug, PartialEq, Eq)]
 pub enum Terrain {
     Flat,
     Hilly,
     Mountain,
+    Other,
 }
 
 // What a file says before its three lists.

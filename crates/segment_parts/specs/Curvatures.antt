@@ -12,7 +12,9 @@ use Rattle.road.specs.Rules.{right_turn, left_turn, same_turn, element_before}
 use Rattle.laws_of_lists.specs.Tests.{true_false, and_left, and_right, or_yes}
 use Rattle.road.specs.File.{Road, clothoid_kind}
 use Rattle.road.specs.declared.Kind.{Kind}
+use Rattle.road.specs.declared.Kind.TheVariants as kinds
 use Rattle.road.specs.declared.Kind.TheVariants.{Straight, Arc, Clothoid}
+use Rattle.laws_of_acceptance.specs.Ranges.{element_in}
 use Rattle.laws_of_acceptance.specs.OfKind.{is-arc-kind, is-clothoid-kind}
 use Rattle.road.specs.Exact.{blank_element, element_of, is_arc, is_clothoid, element_start, arc_curvature, start_curvature, end_curvature, clothoid_curvature, curvature_on, curvature, from◌to◌}
 use Rattle.laws_of_acceptance.specs.Ranged.{Within}
@@ -116,11 +118,12 @@ unfolding clothoid_curvature
 clothoid_by r i y = ap₂ (λ (S E : Frac). S +ᶠ (E -ᶠ S) ×ᶠ ((from element_start r i to y) ÷ (element_of r i).length)) (start-value r i) (end-value r (suc i))
 
 -- a straight or an arc
-own_is : (r : Road) (i s : ℕ) (k : Kind) → (element_of r i).kind ≡ k → clothoid_kind k ≡ false → curvature_on r i s ≡ end_curvature r i
+own_is : (r : Road) (i s : ℕ) (k : Kind) → (element_of r i).kind ≡ k → (k ≡ kinds.Other → ⊥) → clothoid_kind k ≡ false → curvature_on r i s ≡ end_curvature r i
 unfolding curvature_on end_curvature
-own_is r i s Straight e h = rw e
-own_is r i s Arc e h = rw e
-own_is r i s Clothoid e h = absurd (true_false true refl h)
+own_is r i s Straight e named h = rw e
+own_is r i s Arc e named h = rw e
+own_is r i s Clothoid e named h = absurd (true_false true refl h)
+own_is r i s kinds.Other e named h = absurd (named refl)
 
 module _ {r : Road} (G : Guaranteed r) where
   -- past the end of the plan stands no arc
@@ -181,6 +184,6 @@ module _ {r : Road} (G : Guaranteed r) where
         joined = same-arc refl;
         value = λ y o.
             curvature-on G.accepted_as i y o
-            then same-value (element-positive G.accepted_as i y h) (own_is r i y (element_of r i).kind refl e ∙ end-value r i)
+            then same-value (element-positive G.accepted_as i y h) (own_is r i y (element_of r i).kind refl (element_in G.accepted_as i h).kind e ∙ end-value r i)
             then one_share (value_of (end_of (element_of r i))) L (from element_start r i to y) (positive (end-sized i)) (G.element-length i h).low;
       })

@@ -4,17 +4,14 @@ use Rattle.std.proofs.Common.{sym, ap, ◌∙◌, arith, ltb→lt, eqb→eq}
 use Rattle.file_numbers.specs.Reading.{Got, got, refused}
 use Rattle.road.specs.File.{Road, read}
 use Rattle.road.specs.Faults.{refusal}
-use Rattle.road.specs.Limits.{speeds, class_row, terrain_column, speed, limits_of, limits}
-use Rattle.road.specs.declared.Class.{Class}
-use Rattle.road.specs.declared.Class.TheVariants.{LongDistance, Connecting, Collecting, Access}
-use Rattle.road.specs.declared.Terrain.{Terrain}
-use Rattle.road.specs.declared.Terrain.TheVariants.{Flat, Hilly, Mountain}
+use Rattle.road.specs.Limits.{speeds, class_row, terrain_column, class_number, terrain_number, speed, limits_of, limits}
 use Rattle.road.specs.declared.Limits.{Limits}
 use Rattle.road.specs.Rules.{Verdict, passes, breaks, order, judged, accepted}
 use Rattle.road.specs.declared.Rule.{Rule}
 use Rattle.std.specs.List.{list_all}
 use Rattle.laws_of_lists.specs.Each.{each_below}
 use Rattle.laws_of_lists.specs.Tests.{and_T}
+use Rattle.laws_of_acceptance.specs.Ranged.{Within, read_range}
 use Rattle.laws_of_acceptance.specs.Judging.{Keeps, rule_at, passes_kept, kept-passes, kept_by_name}
 use Rattle.laws_of_acceptance.specs.Refusals.{accepted_iff}
 use Rattle.speed_marks.specs.Marks.{tried_speeds, limits_with, is_passed, stands, marks, marks_on, marks_answer}
@@ -81,30 +78,22 @@ pub record OwnTried (r : Road) : Type 0 where
   pub within : own_mark r < 7
   pub speed : 40 + 10 * own_mark r ≡ own_speed r
 
-row_within : (class : Class) → class_row class < 4
-row_within LongDistance = omega arith
-row_within Connecting = omega arith
-row_within Collecting = omega arith
-row_within Access = omega arith
-
-column_within : (terrain : Terrain) → terrain_column terrain < 3
-column_within Flat = omega arith
-column_within Hilly = omega arith
-column_within Mountain = omega arith
-
-pub own_tried : (r : Road) → OwnTried r
+pub own_tried : (r : Road) → Within 1 4 (class_number r.head.class) → Within 1 3 (terrain_number r.head.terrain) → OwnTried r
 unfolding speed
-own_tried r =
+own_tried r class terrain =
     let row : List ℕ = get_or speeds (class_row r.head.class) [] in
-    let whole = and_T (eqb (length row) 3) (list_all tried row) (each_below (λ l. eqb (length l) 3 && list_all tried l) [] speeds tt (class_row r.head.class) (row_within r.head.class)) in
+    let whole = and_T (eqb (length row) 3) (list_all tried row) (each_below (λ l. eqb (length l) 3 && list_all tried l) [] speeds tt (class_row r.head.class) (omega (arith, class.high))) in
     let three : length row ≡ 3 = eqb→eq (length row) 3 whole.0 in
     let v : ℕ = get_or row (terrain_column r.head.terrain) 0 in
-    let t = and_T (ltb ((v - 40) / 10) 7) (eqb (40 + 10 * ((v - 40) / 10)) v) (each_below tried 0 row whole.1 (terrain_column r.head.terrain) (omega (arith, column_within r.head.terrain))) in
+    let t = and_T (ltb ((v - 40) / 10) 7) (eqb (40 + 10 * ((v - 40) / 10)) v) (each_below tried 0 row whole.1 (terrain_column r.head.terrain) (omega (arith, terrain.high))) in
     record { within = ltb→lt ((v - 40) / 10) 7 t.0; speed = eqb→eq (40 + 10 * ((v - 40) / 10)) v t.1 }
 
 -- so its mark is that of its speed
-own_is : (r : Road) → has_bit (marks r) (own_mark r) ≡ stands r (own_speed r)
-own_is r = let o = own_tried r in mark_is r (own_mark r) o.within ∙ ap (stands r) o.speed
+own_is : (r : Road) → Within 1 4 (class_number r.head.class) → Within 1 3 (terrain_number r.head.terrain) → has_bit (marks r) (own_mark r) ≡ stands r (own_speed r)
+own_is r class terrain = let o = own_tried r class terrain in mark_is r (own_mark r) o.within ∙ ap (stands r) o.speed
+
+own_read : (f : List ℕ) (r : Road) (end : ℕ) → read f ≡ got r end → has_bit (marks r) (own_mark r) ≡ stands r (own_speed r)
+own_read f r end e = let head = (read_range f r end e).head in own_is r head.class head.terrain
 
 -- the mark of the class's own speed stands exactly where the file is accepted
 pub own_mark_lem : (f : List ℕ) (r : Road) (end : ℕ) → (accepted f ≡ got r end) ↔ ((read f ≡ got r end) × (has_bit (marks r) (own_mark r) ≡ true))
@@ -112,10 +101,10 @@ unfolding limits limits_of stands
 own_mark_lem f r end = (there, back)
   where
     there : accepted f ≡ got r end → (read f ≡ got r end) × (has_bit (marks r) (own_mark r) ≡ true)
-    there e = let h = (accepted_iff f r end).0 e in (h.0, own_is r ∙ (passed_iff (limits_with (own_speed r) r) r).1 h.1)
+    there e = let h = (accepted_iff f r end).0 e in (h.0, own_read f r end h.0 ∙ (passed_iff (limits_with (own_speed r) r) r).1 h.1)
 
     back : (read f ≡ got r end) × (has_bit (marks r) (own_mark r) ≡ true) → accepted f ≡ got r end
-    back h = (accepted_iff f r end).1 (h.0, (passed_iff (limits_with (own_speed r) r) r).0 (sym (own_is r) ∙ h.1))
+    back h = (accepted_iff f r end).1 (h.0, (passed_iff (limits_with (own_speed r) r) r).0 (sym (own_read f r end h.0) ∙ h.1))
 
 -- ---- the refusals
 

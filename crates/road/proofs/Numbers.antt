@@ -1,0 +1,78 @@
+-- What is said of a kind, a class or a terrain by its number is said of its case, whatever the number; a class or a terrain 0 has the speed of 1.
+use Rattle.std.specs.Prelude.{◌≡◌, refl, ℕ, zero, suc, ◌-◌, ◌<◌, false, List, [], ◌∷◌, get_or, eqb}
+use Rattle.std.proofs.Common.{sym, ap, ◌∙◌, arith, ne_eqb}
+use Rattle.road.specs.File.{kind_of, straight_kind, arc_kind, clothoid_kind, class_of, terrain_of}
+use Rattle.road.specs.Limits.{speeds, class_row, terrain_column, speed, speed_at}
+use Rattle.road.specs.declared.Kind.TheVariants as kinds
+use Rattle.road.specs.declared.Class.{Class}
+use Rattle.road.specs.declared.Class.TheVariants as classes
+use Rattle.road.specs.declared.Terrain.TheVariants as terrains
+
+above : (n m : ℕ) → m < n → eqb n m ≡ false
+above n m h = ne_eqb n m (λ (e : n ≡ m). omega arith)
+
+-- ---- "kind 0 straight, 1 arc, 2 clothoid": no other number is one of them
+
+other-kind : (n : ℕ) → 2 < n → kind_of n ≡ kinds.Other
+other-kind n h = rw (above n 0 (omega arith), above n 1 (omega arith), above n 2 h)
+
+pub straight-number : (n : ℕ) → straight_kind (kind_of n) ≡ eqb n 0
+straight-number zero = refl
+straight-number (suc zero) = refl
+straight-number (suc (suc zero)) = refl
+straight-number (suc (suc (suc n))) = ap straight_kind (other-kind (suc (suc (suc n))) (omega arith)) ∙ sym (above (suc (suc (suc n))) 0 (omega arith))
+
+pub arc-number : (n : ℕ) → arc_kind (kind_of n) ≡ eqb n 1
+arc-number zero = refl
+arc-number (suc zero) = refl
+arc-number (suc (suc zero)) = refl
+arc-number (suc (suc (suc n))) = ap arc_kind (other-kind (suc (suc (suc n))) (omega arith)) ∙ sym (above (suc (suc (suc n))) 1 (omega arith))
+
+pub clothoid-number : (n : ℕ) → clothoid_kind (kind_of n) ≡ eqb n 2
+clothoid-number zero = refl
+clothoid-number (suc zero) = refl
+clothoid-number (suc (suc zero)) = refl
+clothoid-number (suc (suc (suc n))) = ap clothoid_kind (other-kind (suc (suc (suc n))) (omega arith)) ∙ sym (above (suc (suc (suc n))) 2 (omega arith))
+
+-- ---- the speed of two numbers from 1 on, and of 0, which counts as 1
+
+other-class : (n : ℕ) → 4 < n → class_of n ≡ classes.Other
+other-class n h = rw (above n 1 (omega arith), above n 2 (omega arith), above n 3 (omega arith), above n 4 h)
+
+row-of : (n : ℕ) → get_or speeds n [] ≡ get_or speeds (class_row (class_of (suc n))) []
+row-of zero = refl
+row-of (suc zero) = refl
+row-of (suc (suc zero)) = refl
+row-of (suc (suc (suc zero))) = refl
+row-of (suc (suc (suc (suc n)))) = sym (ap (λ (c : Class). get_or speeds (class_row c) []) (other-class (suc (suc (suc (suc (suc n))))) (omega arith)))
+
+other-terrain : (n : ℕ) → 3 < n → terrain_of n ≡ terrains.Other
+other-terrain n h = rw (above n 1 (omega arith), above n 2 (omega arith), above n 3 h)
+
+column-of : (a b c n : ℕ) → get_or (a ∷ b ∷ c ∷ []) n 0 ≡ get_or (a ∷ b ∷ c ∷ []) (terrain_column (terrain_of (suc n))) 0
+column-of a b c zero = refl
+column-of a b c (suc zero) = refl
+column-of a b c (suc (suc zero)) = refl
+column-of a b c (suc (suc (suc n))) = sym (ap (λ (k : ℕ). get_or (a ∷ b ∷ c ∷ []) k 0) (ap terrain_column (other-terrain (suc (suc (suc (suc n)))) (omega arith))))
+
+column-in : (class : Class) (n : ℕ) → get_or (get_or speeds (class_row class) []) n 0 ≡ get_or (get_or speeds (class_row class) []) (terrain_column (terrain_of (suc n))) 0
+column-in classes.LongDistance n = column-of 100 100 80 n
+column-in classes.Connecting n = column-of 100 80 70 n
+column-in classes.Collecting n = column-of 80 60 50 n
+column-in classes.Access n = column-of 60 50 40 n
+column-in classes.Other n = refl
+
+pub speed-number : (n m : ℕ) → speed_at (suc n) (suc m) ≡ speed (class_of (suc n)) (terrain_of (suc m))
+unfolding speed speed_at
+speed-number n m =
+    let i : suc n - 1 ≡ n = omega arith in
+    let j : suc m - 1 ≡ m = omega arith in
+    rw (i, j) (ap (λ (row : List ℕ). get_or row m 0) (row-of n) ∙ column-in (class_of (suc n)) m)
+
+pub class-zero : (m : ℕ) → speed_at 0 m ≡ speed_at 1 m
+unfolding speed_at
+class-zero m = refl
+
+pub terrain-zero : (n : ℕ) → speed_at n 0 ≡ speed_at n 1
+unfolding speed_at
+terrain-zero n = refl
