@@ -4,14 +4,15 @@
 
 ghost use Rattle.std.specs.Prelude.{◌≡◌, ℕ, List, [], ◌∷◌, ◌<◌, ◌≤◌, length};
 ghost use Rattle.std.specs.Iterator.{AlwaysYields, IsFinite};
-ghost use Rattle.laws_of_acceptance.specs.Guaranteed.{Guaranteed};
 ghost use Rattle.road.specs.Exact.{total};
 ghost use Rattle.road.specs.Listed.{multiples, next_listed};
 ghost use Rattle.next_listed.specs.Search.{after};
 ghost use Rattle.next_listed.specs.Along.{point_stations, ends_from, curves_from};
 
-use accepted_road::AcceptedRoad;
+mod with_total;
+
 use road::{Alignment, Crossfall, Element, Tangent};
+pub use with_total::{AlignmentWithTotal, WithTotal};
 
 // A search for the least station that is not below one.
 #[derive(Drop)]
@@ -111,10 +112,11 @@ pub fn least_listed(alignment: &Alignment, whole: u64, s: u64) -> Option<u64>
     search.least
 }
 
-// The least listed station of an accepted road not below s, or that there is none.
-pub fn next_in(road: &AcceptedRoad, s: u64) -> Option<u64>
-    ensures value { result ≡ next_listed road.now s }
-    ensures guaranteed { Guaranteed road.now }
+// The least listed station of an accepted road, or of any alignment with its T, not below s, or that there is none.
+pub fn next_in<A: WithTotal>(road: &A, s: u64) -> Option<u64>
+    ensures value { result ≡ next_listed (A.road road.now) s }
+    ensures guaranteed { A.guaranteed road.now }
 {
-    least_listed(road.alignment(), road.total(), s)
+    let given = road.with_total();
+    least_listed(given.alignment, given.whole, s)
 }
