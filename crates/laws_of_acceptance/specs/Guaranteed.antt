@@ -5,8 +5,9 @@ use Rattle.file_numbers.specs.Reading.{got}
 use Rattle.road.specs.File.{Road}
 use Rattle.road.specs.Exact.{element_of, tangent_of, point_of, is_arc, element_start, tangent_start, total, vertex_count, vertex, half_length, Side, crossfall_of}
 use Rattle.road.specs.declared.Kind.TheVariants.{Arc, Clothoid}
+use Rattle.road.specs.declared.Class.TheVariants as classes
+use Rattle.road.specs.declared.Terrain.TheVariants as terrains
 use Rattle.road.specs.Lane.{lane_width}
-use Rattle.road.specs.Limits.{class_number, terrain_number}
 use Rattle.road.specs.Rules.{accepted}
 use Rattle.laws_of_acceptance.specs.PlanOrder.{Stands, PlanOrder}
 use Rattle.laws_of_acceptance.specs.Links.{Egg, egg_arcs}
@@ -22,8 +23,8 @@ pub record Guaranteed (r : Road) : Type 0 where
   -- tangents add up to T, points ascend from 0 to T, curves lie inside their tangents
   pub facts_of : Facts r
   -- the head
-  pub class : Within 1 4 (class_number r.head.class)
-  pub terrain : Within 1 3 (terrain_number r.head.terrain)
+  pub class : r.head.class ≡ classes.Other → ⊥
+  pub terrain : r.head.terrain ≡ terrains.Other → ⊥
   pub step : Within 1000 100000 r.head.step
   pub ramp : Within 1 20000 r.head.ramp
   pub lane : Within 2750 3500 (lane_width r)

@@ -12,11 +12,12 @@ use Rattle.file_numbers.specs.Number.{number}
 use Rattle.days.specs.Day.{is_day}
 use Rattle.road.specs.File.{Road, fitting, field, choice, kind_of, arc_kind, class_of, terrain_of, date, number_is, dated_fields, contract_fields, signed, between, in_size, radius, element, half, tangent, point, head_fields, plan_fields, Profile, profile_fields, crossfall_fields, road_of, fields, ended, read}
 use Rattle.file_numbers.specs.Number.{signed_of}
-use Rattle.road.specs.Limits.{class_number, terrain_number}
 use Rattle.road.specs.declared.Kind.{Kind}
 use Rattle.road.specs.declared.Kind.TheVariants as kinds
 use Rattle.road.specs.declared.Class.{Class}
+use Rattle.road.specs.declared.Class.TheVariants as classes
 use Rattle.road.specs.declared.Terrain.{Terrain}
+use Rattle.road.specs.declared.Terrain.TheVariants as terrains
 use Rattle.road.specs.declared.Contract.{Contract}
 use Rattle.road.specs.declared.Contract.TheVariants.{Undated, Dated}
 use Rattle.road.specs.declared.Head.{Head}
@@ -68,21 +69,21 @@ kind_named (suc (suc zero)) w e = cc
 kind_named (suc (suc (suc n))) w e = omega (arith, w.high)
 
 -- "class 1 long-distance, 2 connecting, 3 collecting, 4 access"
-class_named : (n : ℕ) → Within 1 4 n → Within 1 4 (class_number (class_of n))
-class_named zero w = absurd (omega (arith, w.low))
-class_named (suc zero) w = w
-class_named (suc (suc zero)) w = w
-class_named (suc (suc (suc zero))) w = w
-class_named (suc (suc (suc (suc zero)))) w = w
-class_named (suc (suc (suc (suc (suc n))))) w = absurd (omega (arith, w.high))
+class_named : (n : ℕ) → Within 1 4 n → class_of n ≡ classes.Other → ⊥
+class_named zero w e = omega (arith, w.low)
+class_named (suc zero) w e = cc
+class_named (suc (suc zero)) w e = cc
+class_named (suc (suc (suc zero))) w e = cc
+class_named (suc (suc (suc (suc zero)))) w e = cc
+class_named (suc (suc (suc (suc (suc n))))) w e = omega (arith, w.high)
 
 -- "terrain 1 flat, 2 hilly, 3 mountain"
-terrain_named : (n : ℕ) → Within 1 3 n → Within 1 3 (terrain_number (terrain_of n))
-terrain_named zero w = absurd (omega (arith, w.low))
-terrain_named (suc zero) w = w
-terrain_named (suc (suc zero)) w = w
-terrain_named (suc (suc (suc zero))) w = w
-terrain_named (suc (suc (suc (suc n)))) w = absurd (omega (arith, w.high))
+terrain_named : (n : ℕ) → Within 1 3 n → terrain_of n ≡ terrains.Other → ⊥
+terrain_named zero w e = omega (arith, w.low)
+terrain_named (suc zero) w e = cc
+terrain_named (suc (suc zero)) w e = cc
+terrain_named (suc (suc (suc zero))) w e = cc
+terrain_named (suc (suc (suc (suc n)))) w e = omega (arith, w.high)
 
 -- ---- the three lists
 
@@ -225,8 +226,8 @@ contract_range s at {c} {next} e = go (number_is 9 s at) e
 
 pub record HeadRange (h : Head) : Type 0 where
   pub contract : ContractRange h.contract
-  pub class : Within 1 4 (class_number h.class)
-  pub terrain : Within 1 3 (terrain_number h.terrain)
+  pub class : h.class ≡ classes.Other → ⊥
+  pub terrain : h.terrain ≡ terrains.Other → ⊥
   pub step : Within 1000 100_000 h.step
   pub ramp : Within 1 20_000 h.ramp
 
@@ -239,7 +240,7 @@ head_range s at h next e =
     on (field 1000 100_000 s b) _ h2 λ step c ec h3.
     on (field 1 20_000 s c) _ h3 λ ramp d ed h4.
     let same : record { contract = contract; class = class; terrain = terrain; step = step; ramp = ramp } ≡ h = cc in
-    subst HeadRange same (record { contract = contract_range s at ez; class = of_choice (λ (c : Class). Within 1 4 (class_number c)) 1 4 class_of class_named s z ea; terrain = of_choice (λ (t : Terrain). Within 1 3 (terrain_number t)) 1 3 terrain_of terrain_named s a eb; step = field-within 1000 100_000 s b ec; ramp = field-within 1 20_000 s c ed })
+    subst HeadRange same (record { contract = contract_range s at ez; class = of_choice (λ (c : Class). c ≡ classes.Other → ⊥) 1 4 class_of class_named s z ea; terrain = of_choice (λ (t : Terrain). t ≡ terrains.Other → ⊥) 1 3 terrain_of terrain_named s a eb; step = field-within 1000 100_000 s b ec; ramp = field-within 1 20_000 s c ed })
 
 -- a count in its range, and as many items
 pub record Counted {A : Type 0} (P : A → Type 0) (low high : ℕ) (l : List A) : Type 0 where

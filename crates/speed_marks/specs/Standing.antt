@@ -4,14 +4,20 @@ use Rattle.std.proofs.Common.{sym, ap, ◌∙◌, arith, ltb→lt, eqb→eq}
 use Rattle.file_numbers.specs.Reading.{Got, got, refused}
 use Rattle.road.specs.File.{Road, read}
 use Rattle.road.specs.Faults.{refusal}
-use Rattle.road.specs.Limits.{speeds, class_row, terrain_column, class_number, terrain_number, speed, limits_of, limits}
+use Rattle.road.specs.Limits.{speeds, class_row, terrain_column, speed, limits_of, limits}
+use Rattle.road.specs.declared.Class.{Class}
+use Rattle.road.specs.declared.Class.TheVariants as classes
+use Rattle.road.specs.declared.Class.TheVariants.{LongDistance, Connecting, Collecting, Access}
+use Rattle.road.specs.declared.Terrain.{Terrain}
+use Rattle.road.specs.declared.Terrain.TheVariants as terrains
+use Rattle.road.specs.declared.Terrain.TheVariants.{Flat, Hilly, Mountain}
 use Rattle.road.specs.declared.Limits.{Limits}
 use Rattle.road.specs.Rules.{Verdict, passes, breaks, order, judged, accepted}
 use Rattle.road.specs.declared.Rule.{Rule}
 use Rattle.std.specs.List.{list_all}
 use Rattle.laws_of_lists.specs.Each.{each_below}
 use Rattle.laws_of_lists.specs.Tests.{and_T}
-use Rattle.laws_of_acceptance.specs.Ranged.{Within, read_range}
+use Rattle.laws_of_acceptance.specs.Ranged.{read_range}
 use Rattle.laws_of_acceptance.specs.Judging.{Keeps, rule_at, passes_kept, kept-passes, kept_by_name}
 use Rattle.laws_of_acceptance.specs.Refusals.{accepted_iff}
 use Rattle.speed_marks.specs.Marks.{tried_speeds, limits_with, is_passed, stands, marks, marks_on, marks_answer}
@@ -78,18 +84,31 @@ pub record OwnTried (r : Road) : Type 0 where
   pub within : own_mark r < 7
   pub speed : 40 + 10 * own_mark r ≡ own_speed r
 
-pub own_tried : (r : Road) → Within 1 4 (class_number r.head.class) → Within 1 3 (terrain_number r.head.terrain) → OwnTried r
+row_within : (class : Class) → (class ≡ classes.Other → ⊥) → class_row class < 4
+row_within LongDistance named = omega arith
+row_within Connecting named = omega arith
+row_within Collecting named = omega arith
+row_within Access named = omega arith
+row_within classes.Other named = absurd (named refl)
+
+column_within : (terrain : Terrain) → (terrain ≡ terrains.Other → ⊥) → terrain_column terrain < 3
+column_within Flat named = omega arith
+column_within Hilly named = omega arith
+column_within Mountain named = omega arith
+column_within terrains.Other named = absurd (named refl)
+
+pub own_tried : (r : Road) → (r.head.class ≡ classes.Other → ⊥) → (r.head.terrain ≡ terrains.Other → ⊥) → OwnTried r
 unfolding speed
 own_tried r class terrain =
     let row : List ℕ = get_or speeds (class_row r.head.class) [] in
-    let whole = and_T (eqb (length row) 3) (list_all tried row) (each_below (λ l. eqb (length l) 3 && list_all tried l) [] speeds tt (class_row r.head.class) (omega (arith, class.high))) in
+    let whole = and_T (eqb (length row) 3) (list_all tried row) (each_below (λ l. eqb (length l) 3 && list_all tried l) [] speeds tt (class_row r.head.class) (row_within r.head.class class)) in
     let three : length row ≡ 3 = eqb→eq (length row) 3 whole.0 in
     let v : ℕ = get_or row (terrain_column r.head.terrain) 0 in
-    let t = and_T (ltb ((v - 40) / 10) 7) (eqb (40 + 10 * ((v - 40) / 10)) v) (each_below tried 0 row whole.1 (terrain_column r.head.terrain) (omega (arith, terrain.high))) in
+    let t = and_T (ltb ((v - 40) / 10) 7) (eqb (40 + 10 * ((v - 40) / 10)) v) (each_below tried 0 row whole.1 (terrain_column r.head.terrain) (omega (arith, column_within r.head.terrain terrain))) in
     record { within = ltb→lt ((v - 40) / 10) 7 t.0; speed = eqb→eq (40 + 10 * ((v - 40) / 10)) v t.1 }
 
 -- so its mark is that of its speed
-own_is : (r : Road) → Within 1 4 (class_number r.head.class) → Within 1 3 (terrain_number r.head.terrain) → has_bit (marks r) (own_mark r) ≡ stands r (own_speed r)
+own_is : (r : Road) → (r.head.class ≡ classes.Other → ⊥) → (r.head.terrain ≡ terrains.Other → ⊥) → has_bit (marks r) (own_mark r) ≡ stands r (own_speed r)
 own_is r class terrain = let o = own_tried r class terrain in mark_is r (own_mark r) o.within ∙ ap (stands r) o.speed
 
 own_read : (f : List ℕ) (r : Road) (end : ℕ) → read f ≡ got r end → has_bit (marks r) (own_mark r) ≡ stands r (own_speed r)
