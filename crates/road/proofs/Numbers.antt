@@ -1,4 +1,4 @@
--- What is said of a kind, a class or a terrain by its number is said of its case, whatever the number; a class or a terrain 0 has the speed of 1.
+-- A kind, and the speed of a class and a terrain, by any number: the tests and the speed of its case.
 use Rattle.std.specs.Prelude.{◌≡◌, refl, ℕ, zero, suc, ◌-◌, ◌<◌, false, List, [], ◌∷◌, get_or, eqb}
 use Rattle.std.proofs.Common.{sym, ap, ◌∙◌, arith, ne_eqb}
 use Rattle.road.specs.File.{kind_of, straight_kind, arc_kind, clothoid_kind, class_of, terrain_of}
@@ -34,7 +34,7 @@ clothoid-number (suc zero) = refl
 clothoid-number (suc (suc zero)) = refl
 clothoid-number (suc (suc (suc n))) = ap clothoid_kind (other-kind (suc (suc (suc n))) (omega arith)) ∙ sym (above (suc (suc (suc n))) 2 (omega arith))
 
--- ---- the speed of two numbers from 1 on, and of 0, which counts as 1
+-- ---- the speed of any two numbers
 
 other-class : (n : ℕ) → 4 < n → class_of n ≡ classes.Other
 other-class n h = rw (above n 1 (omega arith), above n 2 (omega arith), above n 3 (omega arith), above n 4 h)
@@ -62,17 +62,21 @@ column-in classes.Collecting n = column-of 80 60 50 n
 column-in classes.Access n = column-of 60 50 40 n
 column-in classes.Other n = refl
 
-pub speed-number : (n m : ℕ) → speed_at (suc n) (suc m) ≡ speed (class_of (suc n)) (terrain_of (suc m))
+from_1 : (n m : ℕ) → speed_at (suc n) (suc m) ≡ speed (class_of (suc n)) (terrain_of (suc m))
 unfolding speed speed_at
-speed-number n m =
+from_1 n m =
     let i : suc n - 1 ≡ n = omega arith in
     let j : suc m - 1 ≡ m = omega arith in
     rw (i, j) (ap (λ (row : List ℕ). get_or row m 0) (row-of n) ∙ column-in (class_of (suc n)) m)
 
-pub class-zero : (m : ℕ) → speed_at 0 m ≡ speed_at 1 m
-unfolding speed_at
-class-zero m = refl
+-- the number 0 counts as 1
+abbrev pub at_least_1 : ℕ → ℕ
+at_least_1 zero = 1
+at_least_1 (suc n) = suc n
 
-pub terrain-zero : (n : ℕ) → speed_at n 0 ≡ speed_at n 1
+pub speed-number : (n m : ℕ) → speed_at n m ≡ speed (class_of (at_least_1 n)) (terrain_of (at_least_1 m))
 unfolding speed_at
-terrain-zero n = refl
+speed-number zero zero = from_1 0 0
+speed-number zero (suc m) = from_1 0 m
+speed-number (suc n) zero = from_1 n 0
+speed-number (suc n) (suc m) = from_1 n m
