@@ -1,9 +1,11 @@
 -- A kind, and the speed of a class and a terrain, by any number: the tests and the speed of its case.
-use Rattle.std.specs.Prelude.{◌≡◌, refl, ℕ, zero, suc, ◌-◌, ◌<◌, false, List, [], ◌∷◌, get_or, eqb}
+use Rattle.std.specs.Prelude.{◌≡◌, refl, ℕ, zero, suc, ◌-◌, ◌<◌, Bool, false, List, [], ◌∷◌, get_or, eqb}
 use Rattle.std.proofs.Common.{sym, ap, ◌∙◌, arith, ne_eqb}
 use Rattle.road.specs.File.{kind_of, straight_kind, arc_kind, clothoid_kind, class_of, terrain_of}
 use Rattle.road.specs.Limits.{speeds, class_row, terrain_column, speed, speed_at}
+use Rattle.road.specs.declared.Kind.{Kind}
 use Rattle.road.specs.declared.Kind.TheVariants as kinds
+use Rattle.road.specs.declared.Kind.TheVariants.{Straight, Arc, Clothoid}
 use Rattle.road.specs.declared.Class.{Class}
 use Rattle.road.specs.declared.Class.TheVariants as classes
 use Rattle.road.specs.declared.Terrain.TheVariants as terrains
@@ -16,23 +18,21 @@ above n m h = ne_eqb n m (λ (e : n ≡ m). omega arith)
 other-kind : (n : ℕ) → 2 < n → kind_of n ≡ kinds.Other
 other-kind n h = rw (above n 0 (omega arith), above n 1 (omega arith), above n 2 h)
 
+-- a test that holds of the kind with one number alone
+by_number : (test : Kind → Bool) (m : ℕ) → m < 3 → test Straight ≡ eqb 0 m → test Arc ≡ eqb 1 m → test Clothoid ≡ eqb 2 m → test kinds.Other ≡ false → (n : ℕ) → test (kind_of n) ≡ eqb n m
+by_number test m h a b c o zero = a
+by_number test m h a b c o (suc zero) = b
+by_number test m h a b c o (suc (suc zero)) = c
+by_number test m h a b c o (suc (suc (suc n))) = let k : ℕ = suc (suc (suc n)) in ap test (other-kind k (omega arith)) ∙ o ∙ sym (above k m (omega (arith, h)))
+
 pub straight-number : (n : ℕ) → straight_kind (kind_of n) ≡ eqb n 0
-straight-number zero = refl
-straight-number (suc zero) = refl
-straight-number (suc (suc zero)) = refl
-straight-number (suc (suc (suc n))) = ap straight_kind (other-kind (suc (suc (suc n))) (omega arith)) ∙ sym (above (suc (suc (suc n))) 0 (omega arith))
+straight-number = by_number straight_kind 0 (omega arith) refl refl refl refl
 
 pub arc-number : (n : ℕ) → arc_kind (kind_of n) ≡ eqb n 1
-arc-number zero = refl
-arc-number (suc zero) = refl
-arc-number (suc (suc zero)) = refl
-arc-number (suc (suc (suc n))) = ap arc_kind (other-kind (suc (suc (suc n))) (omega arith)) ∙ sym (above (suc (suc (suc n))) 1 (omega arith))
+arc-number = by_number arc_kind 1 (omega arith) refl refl refl refl
 
 pub clothoid-number : (n : ℕ) → clothoid_kind (kind_of n) ≡ eqb n 2
-clothoid-number zero = refl
-clothoid-number (suc zero) = refl
-clothoid-number (suc (suc zero)) = refl
-clothoid-number (suc (suc (suc n))) = ap clothoid_kind (other-kind (suc (suc (suc n))) (omega arith)) ∙ sym (above (suc (suc (suc n))) 2 (omega arith))
+clothoid-number = by_number clothoid_kind 2 (omega arith) refl refl refl refl
 
 -- ---- the speed of any two numbers
 
