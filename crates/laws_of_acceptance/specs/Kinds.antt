@@ -8,6 +8,7 @@ use Rattle.std.proofs.Math.Numerals.{add-one}
 use native.Mathlib.Omega.{arith}
 use Rattle.std.proofs.Math.Decide.{dec_lt}
 use Rattle.std.proofs.Math.ListN.{length}
+use Rattle.laws_of_lists.specs.All.{All, none, more, all_append}
 use Rattle.road.specs.Base.{first_from, first_that}
 use Rattle.road.specs.File.{Road, straight_kind, arc_kind, clothoid_kind}
 use Rattle.road.specs.declared.Limits.{Limits}
@@ -34,6 +35,27 @@ pub record FirstWrong (Allowed : List Kind → Type 0) (ks : List Kind) (place :
   pub before : Continues Allowed (take place ks)
   pub is_wrong_kind : place < length ks → Continues Allowed (take (suc place) ks) → ⊥
   pub stops_short : place ≡ length ks → Allowed ks → ⊥
+
+-- ---- an allowed order, and what it goes on with, has no kind but those that a file names
+
+abbrev pub NamedKind : Kind → Type 0
+NamedKind k = k ≡ Other → ⊥
+
+behind-named : {ks : List Kind} → BehindArc ks → All NamedKind ks
+behind-named last = more (λ e. cc) none
+behind-named (reversing x) = more (λ e. cc) (more (λ e. cc) (more (λ e. cc) (behind-named x)))
+behind-named (egg x) = more (λ e. cc) (more (λ e. cc) (behind-named x))
+
+pub allowed-named : {ks : List Kind} → AllowedOrder ks → All NamedKind ks
+allowed-named straight = more (λ e. cc) none
+allowed-named (bend x later) = more (λ e. cc) (more (λ e. cc) (more (λ e. cc) (all_append (behind-named x) (allowed-named later))))
+
+rest_named : (ks : List Kind) {rest : List Kind} → All NamedKind (ks ++ rest) → All NamedKind rest
+rest_named [] a = a
+rest_named (k ∷ ks) (more p a) = rest_named ks a
+
+pub continues-named : (ks : List Kind) (c : Continues AllowedOrder ks) → All NamedKind c.0
+continues-named ks c = rest_named ks (allowed-named c.1)
 
 -- ---- there is one such place, and none in an allowed order
 

@@ -231,7 +231,7 @@ pub record HeadRange (h : Head) : Type 0 where
   pub step : Within 1000 100_000 h.step
   pub ramp : Within 1 20_000 h.ramp
 
-head_range : (s : List ℕ) (at : ℕ) (h : Head) (next : ℕ) → head_fields s at ≡ got h next → HeadRange h
+pub head_range : (s : List ℕ) (at : ℕ) (h : Head) (next : ℕ) → head_fields s at ≡ got h next → HeadRange h
 unfolding head_fields
 head_range s at h next e =
     on (contract_fields s at) _ e λ contract z ez h0.
