@@ -61,7 +61,6 @@ pub record Progress (f b₀ : List ℕ) (calls : List Call) (k : ℕ) (b : List 
   pub frames-size : length fs ≡ length calls * length b₀
   pub buffer : b ≡ last_buffer b₀ (run_of f b₀ (take k calls))
   pub seen : seen_in (length b₀) (take k xs) fs ≡ run_of f b₀ (take k calls)
-  pub routines : RoutinesRecorded (take k calls) (take k xs)
 
 -- call k has its frame
 pub frame_fits : (k n size : ℕ) → k < n → k * size + size ≤ n * size
@@ -70,25 +69,29 @@ frame_fits k n size h = let h : suc k ≤ n = omega arith in omega (arith, mul-l
 -- no call yet
 pub none : {f b : List ℕ} {calls : List Call} {xs : List Answer} {fs : List ℕ} → length xs ≡ length calls → length fs ≡ length calls * length b → Progress f b calls 0 b xs fs
 unfolding run_of trace
-none a l = record { size = refl; answers-size = a; frames-size = l; buffer = refl; seen = refl; routines = refl }
+none a l = record { size = refl; answers-size = a; frames-size = l; buffer = refl; seen = refl }
+
+-- one more call, and one more answer
+asked : (calls : List Call) {k : ℕ} (d : Call) → k < length calls → take (k + 1) calls ≡ take k calls ++ (get_or calls k d ∷ [])
+asked calls {k} d h = rw (add-one k) (take-suc calls k d h)
+
+written : (xs : List Answer) {k n : ℕ} (x : Answer) → k < n → length xs ≡ n → take (k + 1) (set xs k x) ≡ take k xs ++ (x ∷ [])
+written xs {k} x h e = rw (add-one k) (take-suc-set xs k x (omega arith))
 
 module _ {f b₀ : List ℕ} {calls : List Call} {k : ℕ} {b : List ℕ} {xs : List Answer} {fs : List ℕ} (p : Progress f b₀ calls k b xs fs) where
   -- one more: its answer, the buffer after it, and that buffer in its frame
   pub turn : (d : Call) (x : Answer) {b' frame : List ℕ} {width : ℕ} → k < length calls
-      → answer_of x ≡ (step f b (call_of (get_or calls k d))).answer → answers_row x ≡ asks_row (call_of (get_or calls k d))
-      → b' ≡ (step f b (call_of (get_or calls k d))).buffer
+      → answer_of x ≡ (step f b (call_of (get_or calls k d))).answer → b' ≡ (step f b (call_of (get_or calls k d))).buffer
       → frame ≡ b' → width ≡ length b₀
       → Progress f b₀ calls (k + 1) b' (set xs k x) (put_mid (k * length b₀) width fs frame)
-  turn d x {b'} h said own left same wide =
+  turn d x {b'} h said left same wide =
       let size = length b₀ in
       let c : Call = get_or calls k d in
       let t : After = step f b (call_of c) in
-      let written : take (k + 1) (set xs k x) ≡ take k xs ++ (x ∷ []) = rw (add-one k) (take-suc-set xs k x (omega (arith, p.answers-size))) in
-      let asked : take (k + 1) calls ≡ take k calls ++ (c ∷ []) = rw (add-one k) (take-suc calls k d h) in
       let room : k * size + size ≤ length fs = omega (arith, frame_fits k (length calls) size h, p.frames-size) in
       let long : length b' ≡ size = ap length left ∙ step-length f b (call_of c) ∙ p.size in
       let more : run_of f b₀ (take (k + 1) calls) ≡ run_of f b₀ (take k calls) ++ (t ∷ []) =
-      ap (run_of f b₀) asked
+      ap (run_of f b₀) (asked calls d h)
       ∙ run_more f b₀ (take k calls) c
       ∙ ap (λ l. run_of f b₀ (take k calls) ++ (step f l (call_of c) ∷ [])) (sym p.buffer)
       in
@@ -99,16 +102,10 @@ module _ {f b₀ : List ℕ} {calls : List Call} {k : ℕ} {b : List ℕ} {xs : 
         frames-size = length-put_mid (k * size) size fs b' room long ∙ p.frames-size;
         buffer = left ∙ sym (last_more b₀ (run_of f b₀ (take k calls)) t) ∙ ap (last_buffer b₀) (sym more);
         seen =
-            ap (λ l. seen_in size l (put_mid (k * size) size fs b')) written
+            ap (λ l. seen_in size l (put_mid (k * size) size fs b')) (written xs x h p.answers-size)
             ∙ frame_more size k (take k xs) x fs b' (length-take-le k xs (omega (arith, p.answers-size))) room long
             ∙ ap₂ (λ ts u. ts ++ (u ∷ [])) p.seen (ap₂ (λ y (l : List ℕ). record { answer = y; buffer = l }) said left)
             ∙ sym more;
-        routines =
-            ap (map answers_row) written
-            ∙ map-append answers_row (take k xs) (x ∷ [])
-            ∙ ap₂ (λ bs (t : Bool). bs ++ (t ∷ [])) p.routines own
-            ∙ sym (map-append asks_row (calls_of (take k calls)) (call_of c ∷ []))
-            ∙ sym (ap (map asks_row) (ap calls_of asked ∙ map-append call_of (take k calls) (c ∷ [])));
       })
 
   -- all of them
@@ -118,8 +115,35 @@ module _ {f b₀ : List ℕ} {calls : List Call} {k : ℕ} {b : List ℕ} {xs : 
       let whole : take k xs ≡ xs = take_all k xs (omega (arith, p.answers-size)) in
       recorded f b₀ calls b xs fs (p.frames-size ∙ ap (λ n. n * length b₀) (sym p.answers-size)) (rw all at p.buffer) (rw (all, whole) at p.seen)
 
+-- ---- the same, with each answer of the routine that its call asks
+
+pub record ProgressByRoutine (f b₀ : List ℕ) (calls : List Call) (k : ℕ) (b : List ℕ) (xs : List Answer) (fs : List ℕ) : Type 0 where
+  pub progress : Progress f b₀ calls k b xs fs
+  pub routines : RoutinesRecorded (take k calls) (take k xs)
+
+pub none_by_routine : {f b : List ℕ} {calls : List Call} {xs : List Answer} {fs : List ℕ} → length xs ≡ length calls → length fs ≡ length calls * length b → ProgressByRoutine f b calls 0 b xs fs
+none_by_routine a l = record { progress = none a l; routines = refl }
+
+module _ {f b₀ : List ℕ} {calls : List Call} {k : ℕ} {b : List ℕ} {xs : List Answer} {fs : List ℕ} (p : ProgressByRoutine f b₀ calls k b xs fs) where
+  pub turn_by_routine : (d : Call) (x : Answer) {b' frame : List ℕ} {width : ℕ} → k < length calls
+      → answer_of x ≡ (step f b (call_of (get_or calls k d))).answer → answers_row x ≡ asks_row (call_of (get_or calls k d))
+      → b' ≡ (step f b (call_of (get_or calls k d))).buffer
+      → frame ≡ b' → width ≡ length b₀
+      → ProgressByRoutine f b₀ calls (k + 1) b' (set xs k x) (put_mid (k * length b₀) width fs frame)
+  turn_by_routine d x h said own left same wide =
+      let c : Call = get_or calls k d in
+      record {
+        progress = turn p.progress d x h said left same wide;
+        routines =
+            ap (map answers_row) (written xs x h p.progress.answers-size)
+            ∙ map-append answers_row (take k xs) (x ∷ [])
+            ∙ ap₂ (λ bs (t : Bool). bs ++ (t ∷ [])) p.routines own
+            ∙ sym (map-append asks_row (calls_of (take k calls)) (call_of c ∷ []))
+            ∙ sym (ap (map asks_row) (ap calls_of (asked calls d h) ∙ map-append call_of (take k calls) (c ∷ [])));
+      }
+
   pub done_routines : length calls ≤ k → RoutinesRecorded calls xs
   done_routines h =
       let all : take k calls ≡ calls = take_all k calls h in
-      let whole : take k xs ≡ xs = take_all k xs (omega (arith, p.answers-size)) in
+      let whole : take k xs ≡ xs = take_all k xs (omega (arith, p.progress.answers-size)) in
       rw (all, whole) at p.routines
